@@ -1,0 +1,10 @@
+pub mod Rings
+pub mod Tuples
+pub mod Quotient
+pub mod Polynomials
+pub mod Powers
+pub mod Bits
+pub mod Search
+pub mod Binary
+pub mod Trial
+pub mod Shift

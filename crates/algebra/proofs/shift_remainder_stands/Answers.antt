@@ -1,0 +1,5 @@
+use Rattle.algebra.proofs.Shift.{shift-remainder}
+use Rattle.algebra.proofs.shift_remainder_stands.Needs as need
+
+pub returns : need.returns
+returns c = shift-remainder

@@ -1,0 +1,24 @@
+//! Mathematics that the other crates stand on: operations on any carrier, tuples, products modulo a polynomial, and the fields that are
+//! made of them. There is no program here: a function of this crate does nothing, and its contract is a theorem, which the check proves.
+ghost use mathlib.Core.List.{List};
+ghost use Rattle.algebra.specs.Operations.{Ops, Ring2};
+ghost use Rattle.algebra.specs.Quotient.{Quotient, Only-remainder};
+ghost use Rattle.algebra.specs.Shift.{Shift-remainder};
+
+/// Modulo a monic polynomial, the tuples over a ring have a commutative, associative and distributive product, and a one.
+pub fn quotient_stands<T>()
+    ensures { λ _. ⌜ ((O : Ops T) → Ring2 O → (f : List T) → Quotient O f) ⌝ }
+{
+}
+
+/// That product is the remainder: no other tuple of its length differs from the plain product by a multiple of the modulus.
+pub fn remainder_stands<T>()
+    ensures { λ _. ⌜ ((O : Ops T) → Ring2 O → (f : List T) → Only-remainder O f) ⌝ }
+{
+}
+
+/// A product in the shift field of p is the only code that differs from the plain product by a multiple of p.
+pub fn shift_remainder_stands()
+    ensures { λ _. ⌜ Shift-remainder ⌝ }
+{
+}

@@ -1,0 +1,4 @@
+mod Words
+mod Turns
+mod Kept
+mod Factors

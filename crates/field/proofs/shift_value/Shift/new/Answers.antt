@@ -1,0 +1,6 @@
+use mathlib.Core.Logic.{inl, inr, ⊎-elim}
+use Rattle.algebra.proofs.Shift.{outside}
+use Rattle.field.proofs.shift_value.Shift.new.Needs as need
+
+pub dead-requires : need.dead-requires
+dead-requires c κs = outside (c .args .number) (⊎-elim inl (λ both. inr (both .1)) (c .if-number-gt511 .either))

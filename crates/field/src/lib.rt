@@ -1,0 +1,9 @@
+//! Fields of up to 256 elements: what a field is, and the makes of it.
+mod binary;
+mod interface;
+mod shift_field;
+mod shift_value;
+
+pub use interface::Field;
+pub use shift_field::ShiftField;
+pub use shift_value::Shift;
