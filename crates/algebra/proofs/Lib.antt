@@ -8,3 +8,4 @@ pub mod Search
 pub mod Binary
 pub mod Trial
 pub mod Shift
+pub mod Standard

@@ -6,3 +6,4 @@ pub mod Meaning
 pub mod Search
 pub mod Bits
 pub mod Shift
+pub mod Standard

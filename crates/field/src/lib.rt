@@ -3,7 +3,9 @@ mod binary;
 mod interface;
 mod shift_field;
 mod shift_value;
+mod standard;
 
 pub use interface::Field;
 pub use shift_field::ShiftField;
 pub use shift_value::Shift;
+pub use standard::standard_polynomial;
