@@ -57,7 +57,7 @@ number-timesX w p lo hi t h =
     let hu : number u < 2 ^ w = subst (λ n. number u < 2 ^ n) (length-up two false t ∙ h) (number-lt u) in
     let low-p : number f ≡ g = number-bits w p ∙ ap (λ z. z % 2 ^ w) (p-is ∙ ap (λ z. z + g) (sym (one-mul (2 ^ w)))) ∙ low 1 w hg in
     let twice : 2 * number t ≡ number u + cond x 1 0 * 2 ^ w
-        = sym (zero-add (2 * number t)) ∙ number-up false t ∙ ap (λ n. number u + cond x 1 0 * 2 ^ n) h in
+    = sym (zero-add (2 * number t)) ∙ number-up false t ∙ ap (λ n. number u + cond x 1 0 * 2 ^ n) h in
     number-plus u (scale two x f) (length-up two false t ∙ h ∙ sym (length-scale two x f ∙ length-bits w p))
     ∙ ap (bitXor (number u)) (number-scale x f ∙ ap (λ z. cond x z 0) low-p)
     ∙ sym (step-by w (number u) g x (2 * number t) hu hg twice)
@@ -82,8 +82,8 @@ horner-times w p lo hi b hb (suc n) a =
     let x = eqb (a % 2) 1 in
     number-plus (scale two x c) (timesX two f t) (length-scale two x c ∙ hc ∙ sym (length-timesX two f t ht))
     ∙ ap₂ bitXor
-        (number-scale x c ∙ ap (λ z. cond x z 0) (number-of-code w b hb) ∙ chosen (a % 2) b (mod-lt a (lit< tt)))
-        (number-timesX w p lo hi t (ht ∙ length-bits w p) ∙ ap (step w p) (horner-times w p lo hi b hb n (a / 2)))
+    (number-scale x c ∙ ap (λ z. cond x z 0) (number-of-code w b hb) ∙ chosen (a % 2) b (mod-lt a (lit< tt)))
+    (number-timesX w p lo hi t (ht ∙ length-bits w p) ∙ ap (step w p) (horner-times w p lo hi b hb n (a / 2)))
     ∙ xor-comm (a % 2 * b) (step w p (horner w p b n (a / 2)))
 
 -- ---- the plain product
@@ -123,7 +123,7 @@ number-carryless (suc n) a q =
     let r = poly-product two (bits n (a / 2)) q in
     number-sum (scale two (eqb (a % 2) 1) q) (false ∷ r)
     ∙ ap₂ bitXor (number-scale (eqb (a % 2) 1) q ∙ chosen (a % 2) (number q) (mod-lt a (lit< tt)))
-        (zero-add (2 * number r) ∙ ap (λ z. 2 * z) (number-carryless n (a / 2) q))
+    (zero-add (2 * number r) ∙ ap (λ z. 2 * z) (number-carryless n (a / 2) q))
 
 carryless-none : (n b : ℕ) → carryless n 0 b ≡ 0
 unfolding carryless

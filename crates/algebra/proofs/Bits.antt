@@ -18,8 +18,14 @@ use Rattle.algebra.specs.Bits.{two, bits, number}
 pub two-ring : Ring2 two
 unfolding two xor
 two-ring = record {
-  add-assoc = xor-assoc; add-comm = xor-comm; add-nil = xor-false; add-self = xor-self;
-  mul-assoc = and-assoc; mul-comm = and-comm; mul-add = and-xor; mul-one = and-true;
+  add-assoc = xor-assoc;
+  add-comm = xor-comm;
+  add-nil = xor-false;
+  add-self = xor-self;
+  mul-assoc = and-assoc;
+  mul-comm = and-comm;
+  mul-add = and-xor;
+  mul-one = and-true;
 }
   where
     xor-assoc : (a b c : Bool) → xor (xor a b) c ≡ xor a (xor b c)
@@ -31,28 +37,35 @@ two-ring = record {
     xor-assoc false true false = refl
     xor-assoc false false true = refl
     xor-assoc false false false = refl
+
     xor-comm : (a b : Bool) → xor a b ≡ xor b a
     xor-comm true true = refl
     xor-comm true false = refl
     xor-comm false true = refl
     xor-comm false false = refl
+
     xor-false : (a : Bool) → xor a false ≡ a
     xor-false true = refl
     xor-false false = refl
+
     xor-self : (a : Bool) → xor a a ≡ false
     xor-self true = refl
     xor-self false = refl
+
     and-assoc : (a b c : Bool) → ((a && b) && c) ≡ (a && (b && c))
     and-assoc true b c = refl
     and-assoc false b c = refl
+
     and-comm : (a b : Bool) → (a && b) ≡ (b && a)
     and-comm true true = refl
     and-comm true false = refl
     and-comm false true = refl
     and-comm false false = refl
+
     and-xor : (a b c : Bool) → (a && xor b c) ≡ xor (a && b) (a && c)
     and-xor true b c = refl
     and-xor false b c = refl
+
     and-true : (a : Bool) → (a && true) ≡ a
     and-true true = refl
     and-true false = refl
@@ -118,7 +131,7 @@ unfolding bits plus two
 bits-plus zero a b = refl
 bits-plus (suc v) a b =
     ap₂ _∷_ (ap (λ z. eqb z 1) (xor-mod a b 1) ∙ bit-xor (a % 2) (b % 2) (mod-lt a (lit< tt)) (mod-lt b (lit< tt)))
-      (ap (bits v) (xor-shr a b 1) ∙ bits-plus v (a / 2) (b / 2))
+    (ap (bits v) (xor-shr a b 1) ∙ bits-plus v (a / 2) (b / 2))
 
 pub number-plus : (a b : List Bool) → length a ≡ length b → number (plus two a b) ≡ bitXor (number a) (number b)
 number-plus a b h =

@@ -4,6 +4,7 @@ pub mod Quotient
 pub mod Polynomials
 pub mod Powers
 pub mod Bits
+pub mod Codes
 pub mod Search
 pub mod Binary
 pub mod Trial

@@ -107,7 +107,7 @@ module _ {A : Type 0} {O : Ops A} (R : Ring2 O) where
       let xab = coefficient O (n ∷ poly-product O a b) i in
       let tx = coefficient O (timesX O f t) i in
       ap₂ (O .add) (of-sum (scale O x b) (n ∷ poly-product O a b) i)
-        (of-plus (scale O x b) (timesX O f t) (length-scale O x b ∙ h ∙ sym (length-timesX O f t ht)) i)
+      (of-plus (scale O x b) (timesX O f t) (length-scale O x b ∙ h ∙ sym (length-timesX O f t ht)) i)
       ∙ add-exchange R xb xab xb tx
       ∙ ap (λ z. O .add z (O .add xab tx)) (R .add-self xb)
       ∙ nil-add R (O .add xab tx)
@@ -131,10 +131,10 @@ module _ {A : Type 0} {O : Ops A} (R : Ring2 O) where
       let km = coefficient O (n ∷ poly-product O k m) i in
       let lm = coefficient O (n ∷ poly-product O l m) i in
       ap₂ (O .add) (of-sum (scale O x m) (n ∷ poly-product O k m) i ∙ ap (λ z. O .add z km) (of-scale x m i))
-        (of-sum (scale O y m) (n ∷ poly-product O l m) i ∙ ap (λ z. O .add z lm) (of-scale y m i))
+      (of-sum (scale O y m) (n ∷ poly-product O l m) i ∙ ap (λ z. O .add z lm) (of-scale y m i))
       ∙ add-exchange R (O .mul x mi) km (O .mul y mi) lm
       ∙ ap₂ (O .add) (sym (add-mul R x y mi) ∙ sym (of-scale (O .add x y) m i))
-          (of-up (poly-product O k m) (poly-product O l m) (poly-product O (poly-sum O k l) m) (of-products k l m) i)
+      (of-up (poly-product O k m) (poly-product O l m) (poly-product O (poly-sum O k l) m) (of-products k l m) i)
       ∙ sym (of-sum (scale O (O .add x y) m) (n ∷ poly-product O (poly-sum O k l) m) i)
 
   -- X·p is zero at a place where p is zero everywhere
@@ -153,15 +153,15 @@ module _ {A : Type 0} {O : Ops A} (R : Ring2 O) where
       let m = monic O f in
       let km = poly-product O k m in
       let at : (j : ℕ) → coefficient O (poly-sum O (scale O x m) (n ∷ km)) j ≡ O .add (O .mul x (coefficient O m j)) (coefficient O (n ∷ km) j)
-          = λ j. of-sum (scale O x m) (n ∷ km) j ∙ ap (λ z. O .add z (coefficient O (n ∷ km) j)) (of-scale x m j) in
+      = λ j. of-sum (scale O x m) (n ∷ km) j ∙ ap (λ z. O .add z (coefficient O (n ∷ km) j)) (of-scale x m j) in
       let low : (j : ℕ) → coefficient O km j ≡ n
-          = vanishes f k (λ j le. sym (nil-add R (coefficient O km j))
-              ∙ ap (λ z. O .add z (coefficient O km j)) (sym (mul-nil R x) ∙ ap (O .mul x) (sym (past-top f j le)))
-              ∙ sym (at (suc j)) ∙ h (suc j) (le-trans le (le-suc j))) in
+      = vanishes f k (λ j le. sym (nil-add R (coefficient O km j))
+      ∙ ap (λ z. O .add z (coefficient O km j)) (sym (mul-nil R x) ∙ ap (O .mul x) (sym (past-top f j le)))
+      ∙ sym (at (suc j)) ∙ h (suc j) (le-trans le (le-suc j))) in
       let x-nil : x ≡ n
-          = sym (R .mul-one x) ∙ ap (O .mul x) (sym (top f)) ∙ sym (R .add-nil (O .mul x (coefficient O m (length f))))
-            ∙ ap (O .add (O .mul x (coefficient O m (length f)))) (sym (up-of-nil km low (length f)))
-            ∙ sym (at (length f)) ∙ h (length f) (le-refl (length f)) in
+      = sym (R .mul-one x) ∙ ap (O .mul x) (sym (top f)) ∙ sym (R .add-nil (O .mul x (coefficient O m (length f))))
+      ∙ ap (O .add (O .mul x (coefficient O m (length f)))) (sym (up-of-nil km low (length f)))
+      ∙ sym (at (length f)) ∙ h (length f) (le-refl (length f)) in
       at i ∙ ap₂ (λ z w. O .add (O .mul z (coefficient O m i)) w) x-nil (up-of-nil km low i)
       ∙ ap (λ z. O .add z n) (nil-mul R (coefficient O m i)) ∙ R .add-nil n
 
@@ -173,23 +173,24 @@ module _ {A : Type 0} {O : Ops A} (R : Ring2 O) where
       let n = O .nil in
       let m = monic O f in
       let sums : (i : ℕ) → O .add (coefficient O r i) (coefficient O s i) ≡ coefficient O (poly-product O (poly-sum O k l) m) i
-          = λ i. sym (nil-add R (O .add (coefficient O r i) (coefficient O s i)))
-              ∙ ap (λ z. O .add z (O .add (coefficient O r i) (coefficient O s i))) (sym (R .add-self (coefficient O p i)))
-              ∙ add-exchange R (coefficient O p i) (coefficient O p i) (coefficient O r i) (coefficient O s i)
-              ∙ ap₂ (O .add) (sym (of-sum p r i) ∙ ek i) (sym (of-sum p s i) ∙ el i)
-              ∙ of-products k l m i in
+      = λ i. sym (nil-add R (O .add (coefficient O r i) (coefficient O s i)))
+      ∙ ap (λ z. O .add z (O .add (coefficient O r i) (coefficient O s i))) (sym (R .add-self (coefficient O p i)))
+      ∙ add-exchange R (coefficient O p i) (coefficient O p i) (coefficient O r i) (coefficient O s i)
+      ∙ ap₂ (O .add) (sym (of-sum p r i) ∙ ek i) (sym (of-sum p s i) ∙ el i)
+      ∙ of-products k l m i in
       let high : (i : ℕ) → length f ≤ i → coefficient O (poly-product O (poly-sum O k l) m) i ≡ n
-          = λ i le. sym (sums i)
-              ∙ ap₂ (O .add) (List·getD-eq-default r n (subst (λ v. v ≤ i) (sym hr) le)) (List·getD-eq-default s n (subst (λ v. v ≤ i) (sym hs) le))
-              ∙ R .add-nil n in
+      = λ i le. sym (sums i)
+      ∙ ap₂ (O .add) (List·getD-eq-default r n (subst (λ v. v ≤ i) (sym hr) le)) (List·getD-eq-default s n (subst (λ v. v ≤ i) (sym hs) le))
+      ∙ R .add-nil n in
       same-list n r s (hr ∙ sym hs)
-        (λ i. equal-if-nil R (coefficient O r i) (coefficient O s i) (sums i ∙ vanishes f (poly-sum O k l) high i))
+      (λ i. equal-if-nil R (coefficient O r i) (coefficient O s i) (sums i ∙ vanishes f (poly-sum O k l) high i))
 
   congruent : (f a b : List A) → length b ≡ length f → Congruent O (monic O f) (poly-product O a b) (times O f a b)
   unfolding Congruent Same
   congruent f a b h = (times-modulus f a b, λ i. of-sum (poly-product O a b) (times O f a b) i ∙ differs f a b h i)
 
   pub only-remainder : (f : List A) → Only-remainder O f
-  only-remainder f a b r hb hr =
-      (λ c. one-remainder f (poly-product O a b) r (times O f a b) hr (length-times O f a b hb) c (congruent f a b hb),
-       λ e. subst (λ z. Congruent O (monic O f) (poly-product O a b) z) (sym e) (congruent f a b hb))
+  only-remainder f a b r hb hr = (
+    λ c. one-remainder f (poly-product O a b) r (times O f a b) hr (length-times O f a b hb) c (congruent f a b hb),
+    λ e. subst (λ z. Congruent O (monic O f) (poly-product O a b) z) (sym e) (congruent f a b hb),
+  )

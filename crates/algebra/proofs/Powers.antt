@@ -138,7 +138,7 @@ module _ {A : Type 0} {O : Ops A} (R : Ring2 O) (f : List A) where
         ap (λ u. power Q u (2 ^ n)) (of-list-more x a)
         ∙ power-two-add (quotient-ring R f) c (Q .mul X t) n
         ∙ ap₂ (Q .add) (constant-power x (2 ^ n) ∙ ap constant (fixes x))
-            (power-product (quotient-ring R f) X t (2 ^ n) ∙ ap₂ (Q .mul) fixes-X (fixes-list a))
+        (power-product (quotient-ring R f) X t (2 ^ n) ∙ ap₂ (Q .mul) fixes-X (fixes-list a))
         ∙ sym (of-list-more x a)
 
     -- a power of two that fixes the carrier and X fixes every tuple

@@ -22,21 +22,21 @@ unfolding all-below
 all-below-at test zero e k h = absurd (not-suc-le-zero h)
 all-below-at test (suc n) e k h =
     ⊎-elim (λ (is : k ≡ n). ap test is ∙ and-parts (test n) (all-below n test) e .0)
-      (λ less. all-below-at test n (and-parts (test n) (all-below n test) e .1) k less) (below-cases n k h)
+    (λ less. all-below-at test n (and-parts (test n) (all-below n test) e .1) k less) (below-cases n k h)
 
 pub some-below-at : (test : ℕ → Bool) (n k : ℕ) → k < n → test k ≡ true → some-below n test ≡ true
 unfolding some-below
 some-below-at test zero k h e = absurd (not-suc-le-zero h)
 some-below-at test (suc n) k h e =
     ⊎-elim (λ (is : k ≡ n). or-left (test n) (some-below n test) (ap test (sym is) ∙ e))
-      (λ less. or-right (test n) (some-below n test) (some-below-at test n k less e)) (below-cases n k h)
+    (λ less. or-right (test n) (some-below n test) (some-below-at test n k less e)) (below-cases n k h)
 
 pub some-below-found : (test : ℕ → Bool) (n : ℕ) → some-below n test ≡ true → (k : ℕ) × (k < n) × (test k ≡ true)
 unfolding some-below
 some-below-found test zero e = absurd (false≢true e)
 some-below-found test (suc n) e =
     ⊎-elim (λ (here : test n ≡ true). (n, lt-suc-self n, here))
-      (λ there. let f = some-below-found test n there in (f .0, le-trans (f .1) (le-suc n), f .2)) (or-cases (test n) (some-below n test) e)
+    (λ there. let f = some-below-found test n there in (f .0, le-trans (f .1) (le-suc n), f .2)) (or-cases (test n) (some-below n test) e)
 
 pub some-below-none : (test : ℕ → Bool) (n : ℕ) → ((k : ℕ) → k < n → test k ≡ false) → some-below n test ≡ false
 unfolding some-below

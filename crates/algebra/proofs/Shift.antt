@@ -42,8 +42,8 @@ unfolding highest-bit
 highest zero p lo hi = record { reaches = lo; stays-below = hi; at-most = omega arith }
 highest (suc n) p lo hi =
     cond-both (leb (2 ^ suc n) p) (suc n) (highest-bit n p) (Highest (suc n) p)
-      (λ e. record { reaches = leb-true (2 ^ suc n) p e; stays-below = hi; at-most = omega arith })
-      (λ e. let h = highest n p lo (leb-false (2 ^ suc n) p e) in record { reaches = h .reaches; stays-below = h .stays-below; at-most = omega (arith, h .at-most) })
+    (λ e. record { reaches = leb-true (2 ^ suc n) p e; stays-below = hi; at-most = omega arith })
+    (λ e. let h = highest n p lo (leb-false (2 ^ suc n) p e) in record { reaches = h .reaches; stays-below = h .stays-below; at-most = omega (arith, h .at-most) })
 
 pub degree-is : (p : ℕ) → 2 ≤ p → p ≤ 511 → Highest 8 p (degree p)
 unfolding degree
@@ -177,11 +177,11 @@ module _ (p : ℕ) where
         let K = bits k k in
         let K-is : number K ≡ k = number-of-code k k (below-power k) in
         let right : number (poly-product two K (monic two modulus)) ≡ binary-product k p
-            = number-product K (monic two modulus) ∙ ap₂ binary-product K-is number-modulus in
+        = number-product K (monic two modulus) ∙ ap₂ binary-product K-is number-modulus in
         let same : Same two (poly-sum two (poly-product two A B) S) (poly-product two K (monic two modulus))
-            = same-of-number (poly-sum two (poly-product two A B) S) (poly-product two K (monic two modulus)) (plain-sum a b r ha hb hr ∙ e ∙ sym right) in
+        = same-of-number (poly-sum two (poly-product two A B) S) (poly-product two K (monic two modulus)) (plain-sum a b r ha hb hr ∙ e ∙ sym right) in
         let tuples : S ≡ times two modulus A B
-            = only-remainder two-ring modulus A B S (length-bits d b ∙ sym (length-bits d p)) (length-bits d r ∙ sym (length-bits d p)) .0 (K, same) in
+        = only-remainder two-ring modulus A B S (length-bits d b ∙ sym (length-bits d p)) (length-bits d r ∙ sym (length-bits d p)) .0 (K, same) in
         sym (number-of-code d r hr) ∙ ap number tuples
 
     remainder-only : (a b r : ℕ) → a < 2 ^ degree p → b < 2 ^ degree p → r < 2 ^ degree p
@@ -194,10 +194,12 @@ module _ (p : ℕ) where
         let S = bits d r in
         let fits : length B ≡ length modulus = length-bits d b ∙ sym (length-bits d p) in
         let tuples : S ≡ times two modulus A B
-            = ap (bits d) e ∙ bits-number (times two modulus A B) d (length-times two modulus A B fits ∙ length-bits d p) in
-        let (K, same) = only-remainder two-ring modulus A B S fits (length-bits d r ∙ sym (length-bits d p)) .1 tuples in
-        (number K, sym (plain-sum a b r ha hb hr) ∙ number-of-same (poly-sum two (poly-product two A B) S) (poly-product two K (monic two modulus)) same
-          ∙ number-product K (monic two modulus) ∙ ap (binary-product (number K)) number-modulus)
+        = ap (bits d) e ∙ bits-number (times two modulus A B) d (length-times two modulus A B fits ∙ length-bits d p) in
+        let (K, same) = only-remainder two-ring modulus A B S fits (length-bits d r ∙ sym (length-bits d p)) .1 tuples in (
+          number K,
+          sym (plain-sum a b r ha hb hr) ∙ number-of-same (poly-sum two (poly-product two A B) S) (poly-product two K (monic two modulus)) same
+              ∙ number-product K (monic two modulus) ∙ ap (binary-product (number K)) number-modulus,
+        )
 
     -- ---- where trial division finds no factor: a field
 
@@ -236,9 +238,9 @@ module _ (p : ℕ) where
       unfolding X-returns
       fixes-X =
           same-code (power (quotient two modulus) (variable two-ring modulus) (2 ^ degree p)) (variable two-ring modulus)
-            (power-code (variable two-ring modulus) (degree p) ∙ ap (squared p (degree p)) variable-code
-              ∙ eqb-true (squared p (degree p) (step (degree p) p 1)) (step (degree p) p 1) (none-found p lo hi none .0)
-              ∙ sym variable-code)
+          (power-code (variable two-ring modulus) (degree p) ∙ ap (squared p (degree p)) variable-code
+          ∙ eqb-true (squared p (degree p) (step (degree p) p 1)) (step (degree p) p 1) (none-found p lo hi none .0)
+          ∙ sym variable-code)
 
       fixes-bit : (x : Bool) → power two x (2 ^ degree p) ≡ x
       unfolding two
@@ -262,11 +264,11 @@ module _ (p : ℕ) where
           small : code e < 2
           small =
               ⊎-elim
-                (λ (no-square : not (eqb (horner d p (code e) d (code e)) (code e)) ≡ true).
-                  absurd (both-ways (eqb (horner d p (code e) d (code e)) (code e)) (not-true (eqb (horner d p (code e) d (code e)) (code e)) no-square)
-                    (eq-eqb (horner d p (code e) d (code e)) (code e) (sym (square-code e) ∙ ap code own))))
-                (λ less. ltb-true (code e) 2 less)
-                (or-cases (not (eqb (horner d p (code e) d (code e)) (code e))) (ltb (code e) 2) test)
+              (λ (no-square : not (eqb (horner d p (code e) d (code e)) (code e)) ≡ true).
+              absurd (both-ways (eqb (horner d p (code e) d (code e)) (code e)) (not-true (eqb (horner d p (code e) d (code e)) (code e)) no-square)
+              (eq-eqb (horner d p (code e) d (code e)) (code e) (sym (square-code e) ∙ ap code own))))
+              (λ less. ltb-true (code e) 2 less)
+              (or-cases (not (eqb (horner d p (code e) d (code e)) (code e))) (ltb (code e) 2) test)
 
           decide : (k : ℕ) → code e ≡ k → k < 2 → (e ≡ quotient two modulus .nil) ⊎ (e ≡ quotient two modulus .one)
           decide zero is h = inl (sym (tuple-code e) ∙ ap tuple is ∙ tuple-zero)
@@ -283,10 +285,12 @@ module _ (p : ℕ) where
       inverse a h not-zero =
           let Q = quotient two modulus in
           let t = power Q (tuple a) (2 ^ degree p - 2) in
-          let not-nil : tuple a ≡ Q .nil → ⊥ = λ e. not-zero (sym (code-tuple a h) ∙ ap code (e ∙ sym tuple-zero) ∙ code-tuple 0 (pow-pos (degree p))) in
-          (code t, code-lt t,
-           product-code a (code t) ∙ ap (λ u. code (Q .mul (tuple a) u)) (tuple-code t)
-           ∙ ap code (inverse-tuple (tuple a) not-nil ∙ sym tuple-one) ∙ code-tuple 1 1-lt)
+          let not-nil : tuple a ≡ Q .nil → ⊥ = λ e. not-zero (sym (code-tuple a h) ∙ ap code (e ∙ sym tuple-zero) ∙ code-tuple 0 (pow-pos (degree p))) in (
+            code t,
+            code-lt t,
+            product-code a (code t) ∙ ap (λ u. code (Q .mul (tuple a) u)) (tuple-code t)
+                ∙ ap code (inverse-tuple (tuple a) not-nil ∙ sym tuple-one) ∙ code-tuple 1 1-lt,
+          )
 
       -- no two codes but zero have the product zero
       no-divisors : (a b : ℕ) → a < 2 ^ degree p → b < 2 ^ degree p → shift-product p a b ≡ 0 → (a ≡ 0 → ⊥) → b ≡ 0
@@ -307,7 +311,7 @@ module _ (p : ℕ) where
           product-zero : shift-product p a b ≡ 0
           product-zero =
               sym (remainder-if a b 0 ha hb (pow-pos (degree p))
-                (1, xor-zero-r (binary-product a b) ∙ e ∙ sym (binary-carryless 1 1 p (lit< tt) ∙ xor-zero-r (1 * p) ∙ one-mul p)))
+              (1, xor-zero-r (binary-product a b) ∙ e ∙ sym (binary-carryless 1 1 p (lit< tt) ∙ xor-zero-r (1 * p) ∙ one-mul p)))
 
           nothing : (a b : ℕ) → a < 2 ^ degree p → binary-product a b ≡ p → (a ≡ 0) ⊎ (b ≡ 0) → ⊥
           nothing a b ha e (inl z) =
@@ -335,15 +339,15 @@ module _ (p : ℕ) where
         let (less, whole) = and-parts (ltb (k + 2) (2 ^ degree p)) (eqb (remainder (k + 2) p) 0) divided in
         let (c-less, product-is) = and-parts (ltb (cofactor (k + 2) p) (2 ^ degree p)) (eqb (carryless 8 (cofactor (k + 2) p) (k + 2)) p) (factor-found p k lo hi hk divided) in
         split-by (cofactor (k + 2) p) (k + 2) (ltb-true (cofactor (k + 2) p) (2 ^ degree p) c-less) (ltb-true (k + 2) (2 ^ degree p) less)
-          (eqb-true (carryless 8 (cofactor (k + 2) p) (k + 2)) p product-is)
+        (eqb-true (carryless 8 (cofactor (k + 2) p) (k + 2)) p product-is)
       where
         split-by : (c d : ℕ) → c < 2 ^ degree p → d < 2 ^ degree p → carryless 8 c d ≡ p
             → some-below (2 ^ degree p) (λ a. some-below (2 ^ degree p) (λ b. eqb (binary-product a b) p)) ≡ true
         split-by c d hc hd e =
             let c-lt : c < 2 ^ 8 = le-trans hc (pow-mono (degree-is p lo hi .at-most)) in
             some-below-at (λ a. some-below (2 ^ degree p) (λ b. eqb (binary-product a b) p)) (2 ^ degree p) c hc
-              (some-below-at (λ b. eqb (binary-product c b) p) (2 ^ degree p) d hd
-                (eq-eqb (binary-product c d) p (binary-carryless 8 c d c-lt ∙ e)))
+            (some-below-at (λ b. eqb (binary-product c b) p) (2 ^ degree p) d hd
+            (eq-eqb (binary-product c d) p (binary-carryless 8 c d c-lt ∙ e)))
 
     splits-found : splits p ≡ true → trial p ≡ false → ⊥
     unfolding splits

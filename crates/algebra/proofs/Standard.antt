@@ -34,6 +34,7 @@ standard-sound w lo hi =
     let judged = and-parts (eqb (degree p) (i + 1)) (not (trial p)) (parts .1) in
     let low : 2 ≤ p = leb-true 2 p (within .0) in
     let high : p ≤ 511 = leb-true p 511 (within .1) in
-    let back : i + 1 ≡ w = omega arith in
-    (ap (λ M. M .width) (shift-live p low high) ∙ eqb-true (degree p) (i + 1) (judged .0) ∙ back,
-     ap (λ M. M .sound) (shift-live p low high) ∙ ap not (trial-decides p low high) ∙ judged .1)
+    let back : i + 1 ≡ w = omega arith in (
+      ap (λ M. M .width) (shift-live p low high) ∙ eqb-true (degree p) (i + 1) (judged .0) ∙ back,
+      ap (λ M. M .sound) (shift-live p low high) ∙ ap not (trial-decides p low high) ∙ judged .1,
+    )

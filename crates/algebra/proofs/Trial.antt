@@ -83,7 +83,7 @@ pub factor-found : (p k : ℕ) → 2 ≤ p → p ≤ 511 → k < 30 → divides 
 unfolding test-factors
 factor-found p k lo hi hk e =
     when-true (divides (k + 2) p) (factors (k + 2) p) e
-      (all-below-at (λ k. elim (divides (k + 2) p) [ true ↦ factors (k + 2) p | false ↦ true ]) 30 (at-each test-factors all-factors p lo hi) k hk)
+    (all-below-at (λ k. elim (divides (k + 2) p) [ true ↦ factors (k + 2) p | false ↦ true ]) 30 (at-each test-factors all-factors p lo hi) k hk)
 
 pub none-found : (p : ℕ) → 2 ≤ p → p ≤ 511 → trial p ≡ false → (X-returns p ≡ true) × (few-own-squares p ≡ true)
 unfolding test-field

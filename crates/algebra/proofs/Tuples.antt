@@ -48,7 +48,7 @@ module _ {A : Type 0} (O : Ops A) where
   length-times f [] b h = length-zeros (length b) ∙ h
   length-times f (x ∷ a) b h =
       length-plus (scale O x b) (timesX O f (times O f a b))
-        (length-scale x b ∙ h ∙ sym (length-timesX f (times O f a b) (length-times f a b h)))
+      (length-scale x b ∙ h ∙ sym (length-timesX f (times O f a b) (length-times f a b h)))
       ∙ length-timesX f (times O f a b) (length-times f a b h)
 
 module _ {A : Type 0} {O : Ops A} (R : Ring2 O) where
@@ -156,9 +156,9 @@ module _ {A : Type 0} {O : Ops A} (R : Ring2 O) where
   timesX-plus f b c h =
       let o = O .nil in
       ap₂ (plus O)
-        (ap (λ x. up O x (plus O b c)) (sym (R .add-nil o)) ∙ up-plus o o b c)
-        (ap (λ s. scale O s f) (ap (λ x. last O x (plus O b c)) (sym (R .add-nil o)) ∙ last-plus o o b c h)
-          ∙ scale-add (last O o b) (last O o c) f)
+      (ap (λ x. up O x (plus O b c)) (sym (R .add-nil o)) ∙ up-plus o o b c)
+      (ap (λ s. scale O s f) (ap (λ x. last O x (plus O b c)) (sym (R .add-nil o)) ∙ last-plus o o b c h)
+      ∙ scale-add (last O o b) (last O o c) f)
       ∙ plus-exchange (up O o b) (up O o c) (scale O (last O o b) f) (scale O (last O o c) f)
 
   pub timesX-scale : (f : List A) (s : A) (b : List A) → timesX O f (scale O s b) ≡ scale O s (timesX O f b)
@@ -166,9 +166,9 @@ module _ {A : Type 0} {O : Ops A} (R : Ring2 O) where
   timesX-scale f s b =
       let o = O .nil in
       ap₂ (plus O)
-        (ap (λ x. up O x (scale O s b)) (sym (mul-nil R s)) ∙ up-scale s o b)
-        (ap (λ x. scale O x f) (ap (λ x. last O x (scale O s b)) (sym (mul-nil R s)) ∙ last-scale s o b)
-          ∙ scale-mul s (last O o b) f)
+      (ap (λ x. up O x (scale O s b)) (sym (mul-nil R s)) ∙ up-scale s o b)
+      (ap (λ x. scale O x f) (ap (λ x. last O x (scale O s b)) (sym (mul-nil R s)) ∙ last-scale s o b)
+      ∙ scale-mul s (last O o b) f)
       ∙ sym (scale-plus s (up O o b) (scale O (last O o b) f))
 
   pub timesX-zeros : (f : List A) (v : ℕ) → length f ≡ v → timesX O f (zeros O v) ≡ zeros O v
@@ -196,8 +196,8 @@ module _ {A : Type 0} {O : Ops A} (R : Ring2 O) where
         ∙ ap (λ v. plus O (zeros O v) (zeros O (length c))) (hc ∙ sym hb)
     times-plus (x ∷ a) b c hb hc =
         ap₂ (plus O) (scale-plus x b c)
-          (ap (timesX O f) (times-plus a b c hb hc)
-            ∙ timesX-plus f (times O f a b) (times O f a c) (length-times O f a b hb ∙ sym (length-times O f a c hc)))
+        (ap (timesX O f) (times-plus a b c hb hc)
+        ∙ timesX-plus f (times O f a b) (times O f a c) (length-times O f a b hb ∙ sym (length-times O f a c hc)))
         ∙ plus-exchange (scale O x b) (scale O x c) (timesX O f (times O f a b)) (timesX O f (times O f a c))
 
     pub times-scale : (a : List A) (s : A) (b : List A) → times O f a (scale O s b) ≡ scale O s (times O f a b)
@@ -216,7 +216,7 @@ module _ {A : Type 0} {O : Ops A} (R : Ring2 O) where
     times-timesX (x ∷ a) b h =
         ap₂ (plus O) (sym (timesX-scale f x b)) (ap (timesX O f) (times-timesX a b h))
         ∙ sym (timesX-plus f (scale O x b) (timesX O f (times O f a b))
-            (fits-scale x b h ∙ sym (length-timesX O f (times O f a b) (length-times O f a b h))))
+        (fits-scale x b h ∙ sym (length-timesX O f (times O f a b) (length-times O f a b h))))
 
     times-zeros : (a : List A) (v : ℕ) → length f ≡ v → times O f a (zeros O v) ≡ zeros O v
     times-zeros a v h =
@@ -233,9 +233,9 @@ module _ {A : Type 0} {O : Ops A} (R : Ring2 O) where
         ∙ ap (λ v. times O f b (zeros O v)) (sym h)
     times-times (x ∷ a) b c h =
         ap₂ (plus O) (sym (times-scale b x c))
-          (ap (timesX O f) (times-times a b c h) ∙ sym (times-timesX b (times O f a c) (length-times O f a c h)))
+        (ap (timesX O f) (times-times a b c h) ∙ sym (times-timesX b (times O f a c) (length-times O f a c h)))
         ∙ sym (times-plus b (scale O x c) (timesX O f (times O f a c)) (fits-scale x c h)
-            (length-timesX O f (times O f a c) (length-times O f a c h)))
+        (length-timesX O f (times O f a c) (length-times O f a c h)))
 
   -- ---- the unit
 
@@ -273,7 +273,7 @@ module _ {A : Type 0} {O : Ops A} (R : Ring2 O) where
   placed x a n zero e = absurd (suc-ne-zero (length a + n) e)
   placed x a n (suc v) e =
       ap₂ _∷_ (R .add-nil (O .mul x (O .one)) ∙ R .mul-one x)
-        (ap (λ t. plus O t (a ++ zeros O n)) (scale-zeros x v) ∙ zeros-plus (a ++ zeros O n) v (filled a n ∙ suc-inj e))
+      (ap (λ t. plus O t (a ++ zeros O n)) (scale-zeros x v) ∙ zeros-plus (a ++ zeros O n) v (filled a n ∙ suc-inj e))
 
   -- times one, a stands in its places, with zeros in the n places that it lacks
   from-unit : (f a : List A) (n : ℕ) → length a + n ≡ length f → times O f a (unit O (length f)) ≡ a ++ zeros O n

@@ -8,17 +8,14 @@ ghost use Rattle.algebra.specs.Shift.{Shift-remainder};
 /// Modulo a monic polynomial, the tuples over a ring have a commutative, associative and distributive product, and a one.
 pub fn quotient_stands<T>()
     ensures { λ _. ⌜ ((O : Ops T) → Ring2 O → (f : List T) → Quotient O f) ⌝ }
-{
-}
+{}
 
 /// That product is the remainder: no other tuple of its length differs from the plain product by a multiple of the modulus.
 pub fn remainder_stands<T>()
     ensures { λ _. ⌜ ((O : Ops T) → Ring2 O → (f : List T) → Only-remainder O f) ⌝ }
-{
-}
+{}
 
 /// A product in the shift field of p is the only code that differs from the plain product by a multiple of p.
 pub fn shift_remainder_stands()
     ensures { λ _. ⌜ Shift-remainder ⌝ }
-{
-}
+{}

@@ -37,7 +37,7 @@ pub divides-yes : (d p : ℕ) → 2 ≤ d → d < 32 → d / 2 ^ degree p ≡ 0 
 unfolding divides
 divides-yes d p lo hi low none =
     and-from (ltb d (2 ^ degree p)) (eqb (remainder d p) 0)
-      (lt-ltb d (2 ^ degree p) (below d (degree p) low)) (eq-eqb (remainder d p) 0 (sym (remainder-is d p lo hi) ∙ none))
+    (lt-ltb d (2 ^ degree p) (below d (degree p) low)) (eq-eqb (remainder d p) 0 (sym (remainder-is d p lo hi) ∙ none))
 
 pub divides-high : (d p : ℕ) → (d / 2 ^ degree p ≡ 0 → ⊥) → divides d p ≡ false
 unfolding divides

@@ -60,7 +60,7 @@ module _ (p m w k : ℕ) (kept : m ≡ cond (in-range p) p 2) (measured : w ≡ 
     where
       by : (t : Bool) → in-range p ≡ t
           → number (times two (bits w m) (bits w (bitAnd a k)) (bits w (bitAnd b k)))
-            ≡ shift-by t p .product (a % 2 ^ shift-by t p .width) (b % 2 ^ shift-by t p .width)
+          ≡ shift-by t p .product (a % 2 ^ shift-by t p .width) (b % 2 ^ shift-by t p .width)
       by true e =
           let m-is : m ≡ p = kept ∙ ap (λ b. cond b p 2) e in
           let w-is : w ≡ degree p = measured ∙ ap degree m-is in

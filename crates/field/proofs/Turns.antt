@@ -24,7 +24,7 @@ turn w p b digits i a r s t hw hi hd hr is s-is t-is =
     let i-is : suc j ≡ i = omega arith in
     let n-is : suc (digits - i) ≡ digits - j = omega arith in
     ap₂ bitXor
-      (ap₂ bitXor twice (s-is ∙ ap (λ z. z / 2 ^ w * p) twice) ∙ ap (step w p) (is ∙ ap (λ k. horner w p b (digits - i) (a / 2 ^ k)) (sym i-is)))
-      (t-is ∙ ap (λ z. z * b) (and-mask (a / 2 ^ j) 1))
+    (ap₂ bitXor twice (s-is ∙ ap (λ z. z / 2 ^ w * p) twice) ∙ ap (step w p) (is ∙ ap (λ k. horner w p b (digits - i) (a / 2 ^ k)) (sym i-is)))
+    (t-is ∙ ap (λ z. z * b) (and-mask (a / 2 ^ j) 1))
     ∙ sym (horner-next w p b (digits - i) j a)
     ∙ ap (λ n. horner w p b n (a / 2 ^ j)) n-is

@@ -7,11 +7,16 @@ use crate::binary::multiply;
 use crate::interface::Field;
 use crate::shift_value::Shift;
 
+// The numbers whose highest bit has a position from 1 to 8.
+const SMALLEST: u32 = 2;
+
+const LARGEST: u32 = 511;
+
 pub impl Field for Shift as ShiftField {
     ghost meaning = { λ s. shift (s .number) };
 
     fn width(&self) -> u8 {
-        self.width as u8
+        self.width
     }
 
     fn one(&self) -> u8 {
@@ -19,9 +24,10 @@ pub impl Field for Shift as ShiftField {
     }
 
     fn product(&self, a: u8, b: u8) -> u8 {
+        let width = self.width as u32;
         let a = (a & self.mask) as u32;
         let b = (b & self.mask) as u32;
-        multiply(self.modulus, self.width, a, self.width, b) as u8
+        multiply(self.modulus, width, a, width, b) as u8
     }
 
     fn sound(&self) -> bool {
@@ -34,7 +40,7 @@ impl Shift {
     pub fn new(number: u32) -> Shift
         ensures { λ r. ⌜ r .number ≡ number ⌝ }
     {
-        if number < 2 || number > 511 {
+        if number < SMALLEST || number > LARGEST {
             Shift::dead(number)
         } else {
             Shift::live(number)
@@ -50,7 +56,7 @@ impl Shift {
         Shift {
             number,
             modulus: number,
-            width,
+            width: width as u8,
             mask: ((1u32 << width) - 1) as u8,
             sound: !has_factor(number, width),
         }

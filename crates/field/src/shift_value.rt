@@ -9,7 +9,7 @@ ghost use Rattle.algebra.specs.Shift.{in-range, degree, shift};
 pub struct Shift {
     pub(crate) number: u32,
     pub(crate) modulus: u32,
-    pub(crate) width: u32,
+    pub(crate) width: u8,
     pub(crate) mask: u8,
     pub(crate) sound: bool,
     ghost kept: { modulus ≡ cond (in-range number) number 2 },

@@ -15,21 +15,21 @@ pub returns-then-remainder-eq0 : need.returns-then-remainder-eq0
 returns-then-remainder-eq0 c =
     let p = c .args .p in
     let d = c .loop-d .d in
-    found p d (c .pre .low) (c .pre .high) (c .loop-d .kept .d) (c .loop-d-test .taken)
-      (divides-yes d p (c .loop-d .kept .d) (c .loop-d-test .taken)
-        (ap (λ w. d / 2 ^ w) (sym (c .pre .measured)) ∙ c .if-d-width-eq0 .taken) (sym (c .remainder .ensures) ∙ c .if-remainder-eq0 .taken))
+    found p d (c .pre .low) (c .pre .high) (c .loop-d .kept .d) (omega (arith, c .loop-d-test .taken))
+    (divides-yes d p (c .loop-d .kept .d) (omega (arith, c .loop-d-test .taken))
+    (ap (λ w. d / 2 ^ w) (sym (c .pre .measured)) ∙ c .if-d-width-eq0 .taken) (sym (c .remainder .ensures) ∙ c .if-remainder-eq0 .taken))
 
 pub loop-d-again : need.loop-d-again
 loop-d-again c =
     let p = c .args .p in
     let d = c .loop-d .d in
     let here : divides d p ≡ false =
-        elim (c .else-d-width-eq0 .came) [
-          else-d-width-eq0·by·then-d-width-eq0·else-remainder-eq0 w ↦
-            divides-rest d p (c .loop-d .kept .d) (c .loop-d-test .taken) (λ e. w .if-remainder-eq0 .left (w .remainder .ensures ∙ e))
-        | else-d-width-eq0·by·else-d-width-eq0 w ↦
-            divides-high d p (λ e. w .if-d-width-eq0 .left (ap (λ w. d / 2 ^ w) (c .pre .measured) ∙ e))
-        ] in
+    elim (c .else-d-width-eq0 .came) [
+      | else-d-width-eq0·by·then-d-width-eq0·else-remainder-eq0 w ↦
+          divides-rest d p (c .loop-d .kept .d) (omega (arith, c .loop-d-test .taken)) (λ e. w .if-remainder-eq0 .left (w .remainder .ensures ∙ e))
+      | else-d-width-eq0·by·else-d-width-eq0 w ↦
+          divides-high d p (λ e. w .if-d-width-eq0 .left (ap (λ w. d / 2 ^ w) (c .pre .measured) ∙ e))
+    ] in
     none-more p d (c .loop-d .kept .d) (c .loop-d .inv) here
 
 pub returns : need.returns

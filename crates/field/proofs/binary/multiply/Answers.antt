@@ -19,7 +19,7 @@ select-requires c κs =
     let w = c .args .width in
     let r = c .loop-i .r in
     subst (λ z. z / 2 ^ w < 2) (sym (doubled w r (c .pre .narrow) (c .loop-i .inv .1)))
-      (div-below (2 * r) (2 ^ w) 2 (pow-pos w) (omega (arith, c .loop-i .inv .1)))
+    (div-below (2 * r) (2 ^ w) 2 (pow-pos w) (omega (arith, c .loop-i .inv .1)))
 
 pub loop-i-again : need.loop-i-again
 loop-i-again c =
@@ -27,7 +27,7 @@ loop-i-again c =
     let p = c .args .modulus in
     let high : p < 2 ^ suc w = subst (λ k. p < 2 ^ k) (add-one w) (c .pre .high) in
     let next = turn w p (c .args .b) (c .args .digits) (c .loop-i .i) (c .args .a) (c .loop-i .r) (c .select .result) (c .select-in-loop-i .result)
-        (c .pre .narrow) (omega (arith, c .loop-i-test .taken)) (omega (arith, c .loop-i .kept .i)) (c .loop-i .inv .1) (c .loop-i .inv .0) (c .select .ensures) (c .select-in-loop-i .ensures) in
+    (c .pre .narrow) (omega (arith, c .loop-i-test .taken)) (omega (arith, c .loop-i .kept .i)) (c .loop-i .inv .1) (c .loop-i .inv .0) (c .select .ensures) (c .select-in-loop-i .ensures) in
     (next, subst (λ z. z < 2 ^ w) (sym next) (horner-lt w p (c .pre .low) high (c .args .b) (c .pre .code) (c .args .digits - (c .loop-i .i - 1)) (c .args .a / 2 ^ (c .loop-i .i - 1))))
 
 pub returns : need.returns

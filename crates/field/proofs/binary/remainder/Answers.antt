@@ -36,4 +36,4 @@ returns c =
     let m = c .ilog2 .result in
     c .multiply .ensures
     ∙ ap (λ n. number (times two (bits n d) (bits 9 (c .args .p)) (bits n 1)))
-        (measured d m (c .pre .low) (c .pre .high) (c .ilog2 .ensures .high-bound) (c .ilog2 .ensures .low-bound))
+    (measured d m (c .pre .low) (c .pre .high) (c .ilog2 .ensures .high-bound) (c .ilog2 .ensures .low-bound))

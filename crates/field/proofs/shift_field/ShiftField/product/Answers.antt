@@ -3,7 +3,6 @@ use Prim.Native.Nat.{_^_, _<_, _≤_}
 use native.Mathlib.Nat.{le-trans}
 use native.Mathlib.Numerals.{add-one}
 use native.Mathlib.Omega.{arith}
-use lib.Bits.{bitAnd}
 use lib.Pow.{pow-mono}
 use Rattle.field.proofs.Kept.{width-range, operand-lt, product-is, product-lt}
 use Rattle.field.proofs.shift_field.ShiftField.product.Needs as need
@@ -25,8 +24,10 @@ cast-result c =
     let s = c .args .self .now in
     let h = width-range (s .number) (s .modulus) (s .width) (s .mask) (s .kept) (s .measured) (s .masked) in
     let small : 2 ^ s .width ≤ 2 ^ 8 = pow-mono (h .at-most) in
-    record { fits = subst (λ z. z < 2 ^ 8) (sym (c .multiply .ensures))
-        (le-trans (product-lt (s .width) (s .modulus) (s .width) (bitAnd (c .args .a) (s .mask)) (bitAnd (c .args .b) (s .mask))) small) }
+    record {
+      fits = subst (λ z. z < 2 ^ 8) (sym (c .multiply .ensures))
+          (le-trans (product-lt (s .width) (s .modulus) (s .width) _ _) small);
+    }
 
 pub returns : need.returns
 returns c =

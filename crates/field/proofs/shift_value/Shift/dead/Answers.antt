@@ -8,6 +8,7 @@ use Rattle.field.proofs.shift_value.Shift.dead.Needs as need
 pub ghost-result : need.ghost-result
 unfolding degree highest-bit shift shift-by dead
 ghost-result c =
-    let p = c .args .number in
-    (sym (ap (λ b. cond b p 2) (c .pre)),
-     (refl, (sym (ap (λ b. cond b (2 ^ degree p - 1) 0) (c .pre)), (sym (ap (λ b. shift-by b p .sound) (c .pre)), tt))))
+    let p = c .args .number in (
+      sym (ap (λ b. cond b p 2) (c .pre)),
+      (refl, (sym (ap (λ b. cond b (2 ^ degree p - 1) 0) (c .pre)), (sym (ap (λ b. shift-by b p .sound) (c .pre)), tt))),
+    )

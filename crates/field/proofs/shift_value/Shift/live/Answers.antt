@@ -18,7 +18,14 @@ pub cast-result : need.cast-result
 cast-result c =
     let p = c .args .number in
     let w = c .ilog2-width .result in
-    let is : w ≡ degree p = degree-only p w (c .pre .low) (c .pre .high) (c .ilog2-width .ensures .high-bound) (c .ilog2-width .ensures .low-bound) in
+    let is : w ≡ degree p = degree-only p w (c .pre .low) (c .pre .high) (omega (arith, c .ilog2-width .ensures .high-bound)) (omega (arith, c .ilog2-width .ensures .low-bound)) in
+    omega (arith, degree-is p (c .pre .low) (c .pre .high) .at-most)
+
+pub cast-result-2 : need.cast-result-2
+cast-result-2 c =
+    let p = c .args .number in
+    let w = c .ilog2-width .result in
+    let is : w ≡ degree p = degree-only p w (c .pre .low) (c .pre .high) (omega (arith, c .ilog2-width .ensures .high-bound)) (omega (arith, c .ilog2-width .ensures .low-bound)) in
     let small : 2 ^ degree p ≤ 2 ^ 8 = pow-mono (degree-is p (c .pre .low) (c .pre .high) .at-most) in
     record { fits = subst (λ z. z < 2 ^ 8) (sym (mask-is p w (c .pre .low) (c .pre .high) is)) (omega arith) }
 
@@ -28,7 +35,7 @@ has-factor-requires c κs =
     record {
       low = c .pre .low;
       high = c .pre .high;
-      measured = degree-only p (c .ilog2-width .result) (c .pre .low) (c .pre .high) (c .ilog2-width .ensures .high-bound) (c .ilog2-width .ensures .low-bound);
+      measured = degree-only p (c .ilog2-width .result) (c .pre .low) (c .pre .high) (omega (arith, c .ilog2-width .ensures .high-bound)) (omega (arith, c .ilog2-width .ensures .low-bound));
     }
 
 pub ghost-result : need.ghost-result
@@ -36,8 +43,14 @@ unfolding shift shift-by
 ghost-result c =
     let p = c .args .number in
     let w = c .ilog2-width .result in
-    let is : w ≡ degree p = degree-only p w (c .pre .low) (c .pre .high) (c .ilog2-width .ensures .high-bound) (c .ilog2-width .ensures .low-bound) in
-    let e : in-range p ≡ true = inside p (c .pre .low) (c .pre .high) in
-    (sym (ap (λ b. cond b p 2) e),
-     (is, (mask-is p w (c .pre .low) (c .pre .high) is ∙ sym (ap (λ b. cond b (2 ^ degree p - 1) 0) e),
-       (ap not (c .has-factor .ensures) ∙ sym (ap (λ b. shift-by b p .sound) e), tt))))
+    let is : w ≡ degree p = degree-only p w (c .pre .low) (c .pre .high) (omega (arith, c .ilog2-width .ensures .high-bound)) (omega (arith, c .ilog2-width .ensures .low-bound)) in
+    let e : in-range p ≡ true = inside p (c .pre .low) (c .pre .high) in (
+      sym (ap (λ b. cond b p 2) e),
+      (
+        is,
+        (
+          mask-is p w (c .pre .low) (c .pre .high) is ∙ sym (ap (λ b. cond b (2 ^ degree p - 1) 0) e),
+          (ap not (c .has-factor .ensures) ∙ sym (ap (λ b. shift-by b p .sound) e), tt),
+        ),
+      ),
+    )

@@ -1,0 +1,55 @@
+use mathlib.Core.Path.{_≡_, refl, sym, ap, subst, _∙_}
+use mathlib.Core.Bool.{false}
+use Prim.Native.Nat.{_+_, _-_, _^_, _≤_, _<_}
+use native.Mathlib.Omega.{arith}
+use lib.Dec.{eqb}
+use Rattle.std.proofs.shelf.Tests.{eq-eqb, ne-eqb}
+use Rattle.algebra.specs.Operations.{power}
+use Rattle.algebra.specs.Meaning.{operations}
+use Rattle.algebra.proofs.Codes.{own-code}
+use Rattle.survey.specs.Codes.{period}
+use Rattle.survey.proofs.Searches.{first-found, first-none, power-more, fails-more}
+use Rattle.survey.proofs.codes.period.Needs as need
+
+pub loop-e-holds : need.loop-e-holds
+unfolding power operations
+loop-e-holds g c =
+    let x = c .args .field .now in
+    let M = g .F·Field .meaning x in
+    (c .one-one .ensures, subst (λ n. n < 2 ^ M .width) (sym (c .one-one .ensures)) (g .F·Field·met .shape x .one-code), λ k lo hi. absurd (omega arith))
+
+pub returns-then-x-one : need.returns-then-x-one
+unfolding period
+returns-then-x-one g c =
+    let M = g .F·Field .meaning (c .args .field .now) in
+    let a = c .args .a in
+    let e = c .loop-e .e in
+    let inv = c .loop-e .inv in
+    let is = power-more M a (c .loop-e .x) e (c .product-x .result) (c .pre) (inv .1) (c .loop-e .kept .e) (inv .0) (c .product-x .ensures) in
+    sym (first-found (λ k. eqb (power (operations M) a k) (M .one)) (2 ^ M .width) 1 e (c .loop-e .kept .e)
+    (omega (arith, c .loop-e-test .taken, c .number-of-codes-e-end .ensures)) (inv .2)
+    (eq-eqb (power (operations M) a e) (M .one) (sym is ∙ c .if-x-one .taken ∙ c .one-one .ensures)))
+
+pub loop-e-again : need.loop-e-again
+loop-e-again g c =
+    let x = c .args .field .now in
+    let M = g .F·Field .meaning x in
+    let a = c .args .a in
+    let e = c .loop-e .e in
+    let inv = c .loop-e .inv in
+    let is = power-more M a (c .loop-e .x) e (c .product-x .result) (c .pre) (inv .1) (c .loop-e .kept .e) (inv .0) (c .product-x .ensures) in
+    let back : e + 1 - 1 ≡ e = omega arith in (
+      is ∙ ap (power (operations M) a) (sym back),
+      subst (λ n. n < 2 ^ M .width) (sym (c .product-x .ensures))
+          (g .F·Field·met .shape x .product-code _ _
+          (subst (λ n. n < 2 ^ M .width) (sym (own-code M a (c .pre))) (c .pre)) (subst (λ n. n < 2 ^ M .width) (sym (own-code M (c .loop-e .x) (inv .1))) (inv .1))),
+      fails-more (λ k. eqb (power (operations M) a k) (M .one)) 1 e (inv .2)
+          (ne-eqb (power (operations M) a e) (M .one) (λ z. c .if-x-one .left (is ∙ z ∙ sym (c .one-one .ensures)))),
+    )
+
+pub returns : need.returns
+unfolding period
+returns g c =
+    let M = g .F·Field .meaning (c .args .field .now) in
+    sym (first-none (λ k. eqb (power (operations M) (c .args .a) k) (M .one)) (2 ^ M .width) 1
+    (λ k lo hi. c .loop-e .inv .2 k lo (omega (arith, c .loop-e-test .left, c .number-of-codes-e-end .ensures))))
