@@ -8,5 +8,8 @@ pub mod Codes
 pub mod Search
 pub mod Binary
 pub mod Trial
+pub mod Degree
+pub mod Carried
+pub mod ShiftRing
 pub mod Shift
 pub mod Standard

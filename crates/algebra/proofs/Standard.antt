@@ -12,7 +12,8 @@ use Rattle.algebra.specs.Shift.{highest-bit, degree, splits, shift-by, shift}
 use Rattle.algebra.specs.Standard.{polynomials, polynomial-of}
 use Rattle.algebra.proofs.Binary.{step, horner}
 use Rattle.algebra.proofs.Search.{all-below, all-below-at}
-use Rattle.algebra.proofs.Shift.{shift-live, trial-decides}
+use Rattle.algebra.proofs.Degree.{shift-live}
+use Rattle.algebra.proofs.Shift.{trial-decides}
 use Rattle.algebra.proofs.Trial.{remainder, divides, trial}
 
 -- the polynomial at place i has degree i + 1 and no factor

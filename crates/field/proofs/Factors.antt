@@ -15,7 +15,8 @@ use Rattle.algebra.specs.Tuples.{times}
 use Rattle.algebra.specs.Shift.{degree, splits}
 use Rattle.algebra.proofs.Binary.{horner-times}
 use Rattle.algebra.proofs.Search.{some-below-at, some-below-none}
-use Rattle.algebra.proofs.Shift.{degree-is, degree-positive, trial-decides}
+use Rattle.algebra.proofs.Degree.{degree-is, degree-positive}
+use Rattle.algebra.proofs.Shift.{trial-decides}
 use Rattle.algebra.proofs.Trial.{remainder, divides, trial}
 
 -- what the code works out for d and p

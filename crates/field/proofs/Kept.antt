@@ -15,7 +15,7 @@ use Rattle.algebra.specs.Meaning.{Meaning, as-code, dead}
 use Rattle.algebra.specs.Shift.{in-range, highest-bit, degree, shift-product, shift-by, shift}
 use Rattle.algebra.proofs.Tuples.{length-times}
 use Rattle.algebra.proofs.Bits.{length-bits, number-lt}
-use Rattle.algebra.proofs.Shift.{Highest, degree-is, degree-positive, range}
+use Rattle.algebra.proofs.Degree.{Highest, degree-is, degree-positive, range}
 
 module _ (p m w k : ℕ) (kept : m ≡ cond (in-range p) p 2) (measured : w ≡ degree m) (masked : k ≡ cond (in-range p) (2 ^ degree p - 1) 0) where
   -- the modulus that is kept makes a field's modulus, whatever p is

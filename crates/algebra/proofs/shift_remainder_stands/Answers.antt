@@ -1,4 +1,4 @@
-use Rattle.algebra.proofs.Shift.{shift-remainder}
+use Rattle.algebra.proofs.ShiftRing.{shift-remainder}
 use Rattle.algebra.proofs.shift_remainder_stands.Needs as need
 
 pub returns : need.returns

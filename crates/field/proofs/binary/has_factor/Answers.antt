@@ -2,7 +2,7 @@ use mathlib.Core.Path.{_≡_, sym, ap, subst, _∙_}
 use mathlib.Core.Bool.{false}
 use Prim.Native.Nat.{_/_, _^_}
 use native.Mathlib.Omega.{arith}
-use Rattle.algebra.proofs.Shift.{degree-is}
+use Rattle.algebra.proofs.Degree.{degree-is}
 use Rattle.algebra.proofs.Trial.{divides}
 use Rattle.field.proofs.Factors.{divides-yes, divides-high, divides-rest, found, not-found, none-more}
 use Rattle.field.proofs.binary.has_factor.Needs as need

@@ -7,7 +7,7 @@ use lib.Pow.{pow-mono}
 use Rattle.algebra.specs.Bits.{two, bits, number}
 use Rattle.algebra.specs.Tuples.{times}
 use Rattle.algebra.specs.Shift.{degree}
-use Rattle.algebra.proofs.Shift.{degree-is, degree-only, degree-positive}
+use Rattle.algebra.proofs.Degree.{degree-is, degree-only, degree-positive}
 use Rattle.field.proofs.binary.remainder.Needs as need
 
 -- the machine's logarithm is the degree

@@ -5,7 +5,7 @@ use native.Mathlib.Nat.{one-mul, mod-eq-of-lt}
 use native.Mathlib.Omega.{arith}
 use lib.Pow.{pow-mono}
 use Rattle.algebra.specs.Shift.{in-range, degree, splits, shift-by, shift}
-use Rattle.algebra.proofs.Shift.{degree-is, degree-only, inside}
+use Rattle.algebra.proofs.Degree.{degree-is, degree-only, inside}
 use Rattle.field.proofs.shift_value.Shift.live.Needs as need
 
 -- a shift by the degree, less one, is the mask

@@ -1,6 +1,6 @@
 use mathlib.Core.Logic.{inl, inr, ⊎-elim}
 use native.Mathlib.Omega.{arith}
-use Rattle.algebra.proofs.Shift.{outside}
+use Rattle.algebra.proofs.Degree.{outside}
 use Rattle.field.proofs.shift_value.Shift.new.Needs as need
 
 pub dead-requires : need.dead-requires
