@@ -13,3 +13,7 @@ pub mod Carried
 pub mod ShiftRing
 pub mod Shift
 pub mod Standard
+pub mod Alike
+pub mod PowerTable
+pub mod CodeRing
+pub mod Tower

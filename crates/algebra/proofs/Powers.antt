@@ -8,7 +8,7 @@ use native.Mathlib.Nat.{zero-add, suc-add, mul-zero, mul-suc, zero-mul, suc-mul,
 use lib.ListN.{length}
 use Rattle.algebra.specs.Operations.{Ops, Ring2, power}
 use Rattle.algebra.specs.Tuples.{plus, scale, zeros, unit, timesX, times}
-use Rattle.algebra.proofs.Rings.{add-exchange, add-mul, mul-nil, one-mul, mul-exchange, mul-left-comm}
+use Rattle.algebra.proofs.Rings.{mul-nil, one-mul, mul-exchange, mul-left-comm, square-sum}
 use Rattle.algebra.proofs.Tuples.{length-scale, length-unit, length-timesX, length-times, scale-one, scale-mul, times-unit, times-scale, times-timesX}
 use Rattle.algebra.proofs.Quotient.{times-comm, Tuple, same-tuple, quotient, quotient-ring}
 
@@ -38,24 +38,17 @@ module _ {A : Type 0} {O : Ops A} (R : Ring2 O) where
   power-of-one zero = refl
   power-of-one (suc k) = one-mul R (power O (O .one) k) ∙ power-of-one k
 
-  -- the square of a sum is the sum of the squares
-  square-add : (a b : A) → power O (O .add a b) 2 ≡ O .add (power O a 2) (power O b 2)
+  pub power-two : (a : A) → power O a 2 ≡ O .mul a a
   unfolding power
-  square-add a b =
-      let sq : (x : A) → O .mul x (O .mul x (O .one)) ≡ O .mul x x = λ x. ap (O .mul x) (R .mul-one x) in
-      sq (O .add a b) ∙ R .mul-add (O .add a b) a b
-      ∙ ap₂ (O .add) (add-mul R a b a) (add-mul R a b b ∙ R .add-comm (O .mul a b) (O .mul b b))
-      ∙ add-exchange R (O .mul a a) (O .mul b a) (O .mul b b) (O .mul a b)
-      ∙ ap (O .add (O .add (O .mul a a) (O .mul b b))) (ap (λ z. O .add z (O .mul a b)) (R .mul-comm b a) ∙ R .add-self (O .mul a b))
-      ∙ R .add-nil (O .add (O .mul a a) (O .mul b b))
-      ∙ ap₂ (O .add) (sym (sq a)) (sym (sq b))
+  power-two a = ap (O .mul a) (R .mul-one a)
 
   pub power-two-add : (a b : A) (n : ℕ) → power O (O .add a b) (2 ^ n) ≡ O .add (power O a (2 ^ n)) (power O b (2 ^ n))
   power-two-add a b zero = power-one (O .add a b) ∙ ap₂ (O .add) (sym (power-one a)) (sym (power-one b))
   power-two-add a b (suc n) =
       let twice : (x : A) → power O x (2 ^ suc n) ≡ power O (power O x (2 ^ n)) 2 = λ x. ap (power O x) (pow-suc 2 n) ∙ power-mul x (2 ^ n) 2 in
-      twice (O .add a b) ∙ ap (λ z. power O z 2) (power-two-add a b n) ∙ square-add (power O a (2 ^ n)) (power O b (2 ^ n))
-      ∙ ap₂ (O .add) (sym (twice a)) (sym (twice b))
+      twice (O .add a b) ∙ ap (λ z. power O z 2) (power-two-add a b n) ∙ power-two (O .add (power O a (2 ^ n)) (power O b (2 ^ n)))
+      ∙ square-sum R (power O a (2 ^ n)) (power O b (2 ^ n))
+      ∙ ap₂ (O .add) (sym (twice a ∙ power-two (power O a (2 ^ n)))) (sym (twice b ∙ power-two (power O b (2 ^ n))))
 
   pub power-two-nil : (n : ℕ) → power O (O .nil) (2 ^ n) ≡ O .nil
   power-two-nil n =
@@ -107,7 +100,7 @@ module _ {A : Type 0} {O : Ops A} (R : Ring2 O) (f : List A) where
       times-comm R f (variable .0) (t .0) (variable .1) (t .1) ∙ times-timesX R f (t .0) (unit O (length f)) (length-unit O (length f))
       ∙ ap (timesX O f) (times-unit R f (t .0) (t .1))
 
-  constant-power : (a : A) (k : ℕ) → power (quotient O f) (constant a) k ≡ constant (power O a k)
+  pub constant-power : (a : A) (k : ℕ) → power (quotient O f) (constant a) k ≡ constant (power O a k)
   unfolding power quotient constant
   constant-power a zero = same-tuple _ _ (sym (scale-one R (unit O (length f))))
   constant-power a (suc k) =

@@ -38,3 +38,11 @@ module _ {A : Type 0} {O : Ops A} (R : Ring2 O) where
 
   pub mul-exchange : (a b c d : A) → O .mul (O .mul a b) (O .mul c d) ≡ O .mul (O .mul a c) (O .mul b d)
   mul-exchange a b c d = R .mul-assoc a b (O .mul c d) ∙ ap (O .mul a) (mul-left-comm b c d) ∙ sym (R .mul-assoc a c (O .mul b d))
+
+  -- the square of a sum is the sum of the squares
+  pub square-sum : (a b : A) → O .mul (O .add a b) (O .add a b) ≡ O .add (O .mul a a) (O .mul b b)
+  square-sum a b =
+      R .mul-add (O .add a b) a b ∙ ap₂ (O .add) (add-mul a b a) (add-mul a b b ∙ R .add-comm (O .mul a b) (O .mul b b))
+      ∙ add-exchange (O .mul a a) (O .mul b a) (O .mul b b) (O .mul a b)
+      ∙ ap (O .add (O .add (O .mul a a) (O .mul b b))) (ap (λ z. O .add z (O .mul a b)) (R .mul-comm b a) ∙ R .add-self (O .mul a b))
+      ∙ R .add-nil (O .add (O .mul a a) (O .mul b b))

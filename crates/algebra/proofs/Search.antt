@@ -1,12 +1,14 @@
 -- Searches below a bound, as tests and as facts.
 -- Assumes nothing.
-use mathlib.Core.Path.{_≡_, refl, sym, ap, _∙_}
-use mathlib.Core.Bool.{Bool, true, false, _&&_}
+use mathlib.Core.Path.{_≡_, refl, sym, ap, subst, _∙_}
+use mathlib.Core.Bool.{Bool, true, false, _&&_, cond}
 use mathlib.Core.Logic.{_⊎_, ⊎-elim}
-use Prim.Native.Nat.{ℕ, zero, suc, _<_}
-use native.Mathlib.Nat.{not-suc-le-zero, le-of-suc-le-suc, le-trans, le-suc, lt-suc-self, eq-or-lt-of-le}
-use Rattle.std.proofs.shelf.Tests.{and-parts, or-cases, or-from, or-left, or-right, false≢true}
-use Rattle.algebra.specs.Search.{some-below}
+use Prim.Native.Nat.{ℕ, zero, suc, _+_, _≤_, _<_}
+use native.Mathlib.Numerals.{add-one}
+use native.Mathlib.Omega.{arith}
+use native.Mathlib.Nat.{add-zero, le-refl, not-suc-le-zero, le-of-suc-le-suc, le-trans, le-suc, lt-suc-self, eq-or-lt-of-le}
+use Rattle.std.proofs.shelf.Tests.{and-parts, or-cases, or-from, or-left, or-right, both-ways, cases-bool, cond-true, cond-false, cond-both, false≢true}
+use Rattle.algebra.specs.Search.{some-below, first-from}
 
 -- every number below n passes the test
 unfoldable pub all-below : ℕ → (ℕ → Bool) → Bool
@@ -43,3 +45,60 @@ unfolding some-below
 some-below-none test zero none = refl
 some-below-none test (suc n) none =
     or-from (test n) (some-below n test) (none n (lt-suc-self n)) (some-below-none test n (λ k h. none k (le-trans h (le-suc n))))
+
+pub some-below-not : (test : ℕ → Bool) (n : ℕ) → some-below n test ≡ false → (k : ℕ) → k < n → test k ≡ false
+some-below-not test n none k h =
+    ⊎-elim (λ (found : test k ≡ true). absurd (both-ways (some-below n test) none (some-below-at test n k h found))) (λ no-one. no-one) (cases-bool (test k))
+
+-- ---- the first
+
+-- every number from i up to j fails
+abbrev pub Fails : (ℕ → Bool) → ℕ → ℕ → Type 0
+Fails test i j = (k : ℕ) → i ≤ k → k < j → test k ≡ false
+
+pub first-found : (test : ℕ → Bool) (n i j : ℕ) → i ≤ j → j < i + n → Fails test i j → test j ≡ true → first-from i n test ≡ j
+unfolding first-from
+first-found test zero i j lo hi fails passes = absurd (omega arith)
+first-found test (suc n) i j lo hi fails passes =
+    ⊎-elim (λ (is : i ≡ j). cond-true (test i) i (first-from (suc i) n test) (ap test is ∙ passes) ∙ is)
+    (λ (less : i < j). cond-false (test i) i (first-from (suc i) n test) (fails i (le-refl i) less)
+    ∙ first-found test n (suc i) j less (omega arith) (λ k h l. fails k (omega arith) l) passes)
+    (eq-or-lt-of-le lo)
+
+pub first-none : (test : ℕ → Bool) (n i : ℕ) → Fails test i (i + n) → first-from i n test ≡ i + n
+unfolding first-from
+first-none test zero i fails = sym (add-zero i)
+first-none test (suc n) i fails =
+    cond-false (test i) i (first-from (suc i) n test) (fails i (le-refl i) (omega arith))
+    ∙ first-none test n (suc i) (λ k h l. fails k (omega arith) (omega arith)) ∙ omega arith
+
+-- one number more fails
+pub fails-more : (test : ℕ → Bool) (i e : ℕ) → Fails test i e → test e ≡ false → Fails test i (e + 1)
+fails-more test i e below here k lo hi =
+    ⊎-elim (λ (is : k ≡ e). ap test is ∙ here) (λ less. below k lo less) (eq-or-lt-of-le (le-of-suc-le-suc (subst (λ n. k < n) (add-one e) hi)))
+
+-- what is found passes
+pub first-passes : (test : ℕ → Bool) (n i : ℕ) → first-from i n test < i + n → test (first-from i n test) ≡ true
+unfolding first-from
+first-passes test zero i h = absurd (omega arith)
+first-passes test (suc n) i h = by (test i) refl h (first-passes test n (suc i))
+  where
+    by : (b : Bool) → test i ≡ b → cond b i (first-from (suc i) n test) < i + suc n
+        → (first-from (suc i) n test < suc i + n → test (first-from (suc i) n test) ≡ true) → test (cond b i (first-from (suc i) n test)) ≡ true
+    by true e l next = e
+    by false e l next = next (omega arith)
+
+-- and never lies past the end
+pub first-bound : (test : ℕ → Bool) (n i : ℕ) → first-from i n test ≤ i + n
+unfolding first-from
+first-bound test zero i = omega arith
+first-bound test (suc n) i = cond-both (test i) i (first-from (suc i) n test) (λ k. k ≤ i + suc n) (λ e. omega arith) (λ e. let h = first-bound test n (suc i) in omega arith)
+
+-- what passes is not missed
+pub first-reaches : (test : ℕ → Bool) (n i k : ℕ) → i ≤ k → k < i + n → test k ≡ true → first-from i n test ≤ k
+unfolding first-from
+first-reaches test zero i k lo hi e = absurd (omega arith)
+first-reaches test (suc n) i k lo hi e =
+    cond-both (test i) i (first-from (suc i) n test) (λ z. z ≤ k) (λ _. lo)
+      (λ fails. ⊎-elim (λ (is : i ≡ k). absurd (both-ways (test i) fails (ap test is ∙ e)))
+        (λ less. first-reaches test n (suc i) k less (omega arith) e) (eq-or-lt-of-le lo))

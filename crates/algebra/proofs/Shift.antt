@@ -19,7 +19,7 @@ use Rattle.algebra.specs.Bits.{two, number}
 use Rattle.algebra.specs.Shift.{binary-product, degree, splits, shift-product, in-range, shift-by, shift, Multiple}
 use Rattle.algebra.proofs.Tuples.{length-unit}
 use Rattle.algebra.proofs.Quotient.{Tuple, quotient}
-use Rattle.algebra.proofs.Powers.{power-one, power-add, power-mul, power-two-nil, power-of-one, variable, fixes-all}
+use Rattle.algebra.proofs.Powers.{power-one, power-two, power-mul, power-two-nil, power-of-one, variable, fixes-all}
 use Rattle.algebra.proofs.Bits.{two-ring, length-bits}
 use Rattle.algebra.proofs.Search.{all-below-at, some-below-at, some-below-found}
 use Rattle.algebra.proofs.Binary.{step, horner, number-timesX, horner-times, carryless, carryless-nil, binary-carryless}
@@ -78,11 +78,8 @@ module _ (p : ℕ) (lo : 2 ≤ p) (hi : p ≤ 511) where
   power-code t (suc n) =
       let Q = quotient two (modulus p) in
       let s = power Q t (2 ^ n) in
-      ap (code p) (ap (power Q t) (pow-suc 2 n) ∙ power-mul (ring p) t (2 ^ n) 2 ∙ square s)
+      ap (code p) (ap (power Q t) (pow-suc 2 n) ∙ power-mul (ring p) t (2 ^ n) 2 ∙ power-two (ring p) s)
       ∙ square-code s ∙ ap (λ k. horner (degree p) p k (degree p) k) (power-code t n)
-    where
-      square : (s : Tuple Bool (length (modulus p))) → power (quotient two (modulus p)) s 2 ≡ quotient two (modulus p) .mul s s
-      square s = power-add (ring p) s 1 1 ∙ ap₂ (quotient two (modulus p) .mul) (power-one (ring p) s) (power-one (ring p) s)
 
   variable-code : code p (variable two-ring (modulus p)) ≡ step (degree p) p 1
   unfolding code variable tuple quotient

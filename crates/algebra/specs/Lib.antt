@@ -7,3 +7,6 @@ pub mod Search
 pub mod Bits
 pub mod Shift
 pub mod Standard
+pub mod PowerTable
+pub mod Tower
+pub mod Alike

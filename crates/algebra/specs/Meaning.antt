@@ -21,6 +21,10 @@ Is-code M a = a < 2 ^ M .width
 unfoldable pub as-code : Meaning → ℕ → ℕ
 as-code M a = a % 2 ^ M .width
 
+-- what counts of a number that a field is made from: its m low bits
+unfoldable pub low-bits : ℕ → ℕ → ℕ
+low-bits m n = n % 2 ^ m
+
 -- a field's operations on codes
 unfoldable pub operations : Meaning → Ops ℕ
 operations M = record { nil = 0; one = M .one; add = bitXor; mul = M .product }

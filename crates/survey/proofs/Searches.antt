@@ -13,26 +13,6 @@ use Rattle.algebra.specs.Meaning.{Meaning, Is-code, as-code, operations}
 use Rattle.algebra.proofs.Codes.{product-of-codes}
 use Rattle.survey.specs.Codes.{first-from, count-below, largest-below}
 
--- every number from i up to j fails
-abbrev pub Fails : (ℕ → Bool) → ℕ → ℕ → Type 0
-Fails test i j = (k : ℕ) → i ≤ k → k < j → test k ≡ false
-
-pub first-found : (test : ℕ → Bool) (n i j : ℕ) → i ≤ j → j < i + n → Fails test i j → test j ≡ true → first-from i n test ≡ j
-unfolding first-from
-first-found test zero i j lo hi fails passes = absurd (omega arith)
-first-found test (suc n) i j lo hi fails passes =
-    ⊎-elim (λ (is : i ≡ j). cond-true (test i) i (first-from (suc i) n test) (ap test is ∙ passes) ∙ is)
-    (λ (less : i < j). cond-false (test i) i (first-from (suc i) n test) (fails i (le-refl i) less)
-    ∙ first-found test n (suc i) j less (omega arith) (λ k h l. fails k (omega arith) l) passes)
-    (eq-or-lt-of-le lo)
-
-pub first-none : (test : ℕ → Bool) (n i : ℕ) → Fails test i (i + n) → first-from i n test ≡ 0
-unfolding first-from
-first-none test zero i fails = refl
-first-none test (suc n) i fails =
-    cond-false (test i) i (first-from (suc i) n test) (fails i (le-refl i) (omega arith))
-    ∙ first-none test n (suc i) (λ k h l. fails k (omega arith) (omega arith))
-
 -- one number more is counted
 pub count-more : (test : ℕ → Bool) (a : ℕ) (found : Bool) (count next : ℕ) → count ≡ count-below a test → found ≡ test a → next ≡ count + cond found 1 0
     → next ≡ count-below (a + 1) test
@@ -52,8 +32,3 @@ unfolding power operations
 power-more M a x e r ha hx pos so-far is =
     let e-is : suc (e - 1) ≡ e = omega arith in
     is ∙ product-of-codes M a x ha hx ∙ ap (M .product a) so-far ∙ ap (power (operations M) a) e-is
-
--- one number of copies more does not give one
-pub fails-more : (test : ℕ → Bool) (i e : ℕ) → Fails test i e → test e ≡ false → Fails test i (e + 1)
-fails-more test i e below here k lo hi =
-    ⊎-elim (λ (is : k ≡ e). ap test is ∙ here) (λ less. below k lo less) (eq-or-lt-of-le (le-of-suc-le-suc (subst (λ n. k < n) (add-one e) hi)))
