@@ -17,6 +17,7 @@ use Rattle.algebra.specs.Search.{some-below, first-from}
 use Rattle.algebra.specs.Bits.{two}
 use Rattle.algebra.specs.Shift.{degree, in-range, splits, shift-product, shift-by, shift}
 use Rattle.algebra.specs.PowerTable.{places, entry, logarithm, stands, table-product, full, table-by, power-table}
+use Rattle.algebra.specs.Alike.{Alike, Table-alike}
 use Rattle.algebra.proofs.Rings.{add-twice, nil-mul, one-mul}
 use Rattle.algebra.proofs.Quotient.{Tuple, quotient}
 use Rattle.algebra.proofs.Powers.{power-add, power-mul, power-product, power-of-one}
@@ -303,4 +304,12 @@ power-table-laws p g = by (in-range p) refl
   where
     by : (b : Bool) → in-range p ≡ b → table-by b p g .sound ≡ true → Laws (table-by b p g)
     by true e sound = full-laws p g (range p e .0) (range p e .1) sound
+    by false e sound = absurd (false≢true sound)
+
+pub table-alike : Table-alike
+unfolding power-table shift table-by dead
+table-alike p g = by (in-range p) refl
+  where
+    by : (b : Bool) → in-range p ≡ b → table-by b p g .sound ≡ true → Alike (table-by b p g) (shift-by b p)
+    by true e sound = unfold shift-by in record { widths = refl; products = same-product p g (range p e .0) (range p e .1) sound }
     by false e sound = absurd (false≢true sound)

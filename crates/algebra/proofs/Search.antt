@@ -1,7 +1,7 @@
 -- Searches below a bound, as tests and as facts.
 -- Assumes nothing.
-use mathlib.Core.Path.{_≡_, refl, sym, ap, subst, _∙_}
-use mathlib.Core.Bool.{Bool, true, false, _&&_, cond}
+use mathlib.Core.Path.{_≡_, refl, sym, ap, ap₂, subst, _∙_}
+use mathlib.Core.Bool.{Bool, true, false, _&&_, _||_, cond}
 use mathlib.Core.Logic.{_⊎_, ⊎-elim}
 use Prim.Native.Nat.{ℕ, zero, suc, _+_, _≤_, _<_}
 use native.Mathlib.Numerals.{add-one}
@@ -50,7 +50,19 @@ pub some-below-not : (test : ℕ → Bool) (n : ℕ) → some-below n test ≡ f
 some-below-not test n none k h =
     ⊎-elim (λ (found : test k ≡ true). absurd (both-ways (some-below n test) none (some-below-at test n k h found))) (λ no-one. no-one) (cases-bool (test k))
 
+-- tests that agree find alike
+pub some-below-same : (t s : ℕ → Bool) (n : ℕ) → ((k : ℕ) → k < n → t k ≡ s k) → some-below n t ≡ some-below n s
+unfolding some-below
+some-below-same t s zero same = refl
+some-below-same t s (suc n) same = ap₂ _||_ (same n (lt-suc-self n)) (some-below-same t s n (λ k h. same k (le-trans h (le-suc n))))
+
 -- ---- the first
+
+pub first-same : (t s : ℕ → Bool) (n i : ℕ) → ((k : ℕ) → i ≤ k → k < i + n → t k ≡ s k) → first-from i n t ≡ first-from i n s
+unfolding first-from
+first-same t s zero i same = refl
+first-same t s (suc n) i same =
+    ap₂ (λ b k. cond b i k) (same i (le-refl i) (omega arith)) (first-same t s n (suc i) (λ k lo hi. same k (omega arith) (omega arith)))
 
 -- every number from i up to j fails
 abbrev pub Fails : (ℕ → Bool) → ℕ → ℕ → Type 0

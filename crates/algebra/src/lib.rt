@@ -1,6 +1,7 @@
 //! Mathematics that the other crates stand on: operations on any carrier, tuples, products modulo a polynomial, and the fields that are
 //! made of them. There is no program here: a function of this crate does nothing, and its contract is a theorem, which the check proves.
 ghost use mathlib.Core.List.{List};
+ghost use Rattle.algebra.specs.Alike.{Same-one, Table-alike};
 ghost use Rattle.algebra.specs.Operations.{Ops, Ring2};
 ghost use Rattle.algebra.specs.Quotient.{Quotient, Only-remainder};
 ghost use Rattle.algebra.specs.Shift.{Shift-remainder};
@@ -19,3 +20,15 @@ pub fn remainder_stands<T>()
 pub fn shift_remainder_stands()
     ensures { λ _. ⌜ Shift-remainder ⌝ }
 {}
+
+/// A sound power-table field has the products of the shift field of its number.
+pub fn table_alike_stands()
+    ensures { λ _. ⌜ Table-alike ⌝ }
+{
+}
+
+/// Two sound fields with the same width and products have the same one.
+pub fn same_one_stands()
+    ensures { λ _. ⌜ Same-one ⌝ }
+{
+}

@@ -2,3 +2,6 @@ mod Words
 mod Turns
 mod Kept
 mod Factors
+mod LookUps
+mod Places
+mod Pairs
