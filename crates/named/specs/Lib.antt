@@ -1,0 +1,4 @@
+pub mod Makes
+pub mod Numbers
+pub mod Layers
+pub mod Names
