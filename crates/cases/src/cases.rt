@@ -1,7 +1,7 @@
-//! One case: a line that says what the library should answer.
+//! One case: a line that says what the library should answer of a field that it names.
 use field::Field;
-use field::Shift;
-use field::ShiftField;
+use named::StoreyField;
+use named::field_named;
 
 /// What came of a case.
 #[derive(Clone, Copy)]
@@ -10,7 +10,7 @@ pub enum Verdict {
     Wrong,
 }
 
-/// `product P A B R`, `sound P` or `unsound P`; any other line is wrong.
+/// `product A B R NAME`, `width W NAME`, `one O NAME`, `sound NAME` or `unsound NAME`; any other line is wrong.
 pub fn try_case(line: &str) -> Verdict {
     match holds(line) {
         Some(true) => Verdict::Right,
@@ -22,21 +22,29 @@ fn holds(line: &str) -> Option<bool> {
     let (kind, rest) = line.split_once(' ')?;
     match kind {
         "product" => product_holds(rest),
-        "sound" => Some(Shift::new(number(rest)?).sound()),
-        "unsound" => Some(!Shift::new(number(rest)?).sound()),
+        "width" => width_holds(rest),
+        "one" => one_holds(rest),
+        "sound" => Some(field_named(rest).ok()?.sound()),
+        "unsound" => Some(!field_named(rest).ok()?.sound()),
         _ => None,
     }
 }
 
 fn product_holds(text: &str) -> Option<bool> {
-    let (p, rest) = text.split_once(' ')?;
-    let (a, rest) = rest.split_once(' ')?;
-    let (b, r) = rest.split_once(' ')?;
-    Some(Shift::new(number(p)?).product(byte(a)?, byte(b)?) == byte(r)?)
+    let (a, rest) = text.split_once(' ')?;
+    let (b, rest) = rest.split_once(' ')?;
+    let (r, name) = rest.split_once(' ')?;
+    Some(field_named(name).ok()?.product(byte(a)?, byte(b)?) == byte(r)?)
 }
 
-fn number(text: &str) -> Option<u32> {
-    text.parse::<u32>().ok()
+fn width_holds(text: &str) -> Option<bool> {
+    let (width, name) = text.split_once(' ')?;
+    Some(field_named(name).ok()?.width() == byte(width)?)
+}
+
+fn one_holds(text: &str) -> Option<bool> {
+    let (one, name) = text.split_once(' ')?;
+    Some(field_named(name).ok()?.one() == byte(one)?)
 }
 
 fn byte(text: &str) -> Option<u8> {

@@ -25,8 +25,12 @@ fn main(rt: LibcRuntime) -> io::Result<()> {
 #[cfg(test)]
 mod tests {
     use field::Field;
+    use field::PowerTable;
+    use field::PowerTableField;
     use field::Shift;
     use field::ShiftField;
+    use field::Tower;
+    use field::TowerField;
     use field::standard_polynomial;
     use std::test::*;
 
@@ -41,16 +45,32 @@ mod tests {
     #[test]
     fn sound_and_not() -> Result<(), Fail> {
         check(Shift::new(31).sound())?;
-        check(!Shift::new(5).sound())
+        check(!Shift::new(5).sound())?;
+        check(PowerTable::new(19, 2).sound())?;
+        check(!PowerTable::new(31, 2).sound())
     }
 
     #[test]
-    fn widths() -> Result<(), Fail> {
-        check_eq(Shift::new(0).width(), 1)?;
-        check_eq(Shift::new(2).width(), 1)?;
-        check_eq(Shift::new(4).width(), 2)?;
-        check_eq(Shift::new(511).width(), 8)?;
-        check_eq(Shift::new(512).width(), 1)
+    fn a_tower_of_four() -> Result<(), Fail> {
+        let tower = Tower::new(Shift::new(2), 1);
+        let shift = Shift::new(7);
+        for a in 0..4u8 {
+            for b in 0..4u8 {
+                check_eq(tower.product(a, b), shift.product(a, b))?;
+            }
+        }
+        Ok(())
+    }
+
+    #[test]
+    fn towers_sound_and_not() -> Result<(), Fail> {
+        let four = Tower::new(Shift::new(2), 1);
+        check(four.sound())?;
+        check(!Tower::new(four, 1).sound())?;
+        let sixteen = Tower::new(four, 2);
+        check(sixteen.sound())?;
+        check(Tower::new(sixteen, 8).sound())?;
+        check(!Tower::new(sixteen, 4).sound())
     }
 
     #[test]

@@ -5,6 +5,7 @@ ghost use Rattle.std.specs.Results.{Cases};
 ghost use Rattle.named.specs.Layers.{Says, Faulty};
 use crate::numbers::number;
 use crate::numbers::number_and_rest;
+use std::fmt;
 
 /// What a name begins with; of a tower's name the rest names the field below.
 #[derive(Clone, Copy)]
@@ -22,6 +23,18 @@ pub enum Misnamed {
     TableNumbers,
     TowerNumber,
     TooManyTowers,
+}
+
+pub impl fmt::Display for Misnamed as MisnamedDisplay {
+    fn fmt<W: fmt::Write>(&self, f: &mut fmt::Formatter<W>) -> fmt::Result {
+        match self {
+            Misnamed::UnknownMake => write!(f, "a field is a `shift`, a `table` or a `tower`"),
+            Misnamed::ShiftNumber => write!(f, "`shift` takes a number of 32 bits"),
+            Misnamed::TableNumbers => write!(f, "`table` takes two numbers of 32 bits"),
+            Misnamed::TowerNumber => write!(f, "`tower` takes a number of 32 bits and a field"),
+            Misnamed::TooManyTowers => write!(f, "at most three towers stand on a field"),
+        }
+    }
 }
 
 // The two numbers of a table.

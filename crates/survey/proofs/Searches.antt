@@ -1,17 +1,14 @@
 -- Loops that go through codes or copies one by one, against what they look for.
 -- Assumes nothing.
-use mathlib.Core.Path.{_≡_, refl, sym, ap, ap₂, subst, _∙_}
-use mathlib.Core.Bool.{Bool, true, false, cond}
-use Prim.Native.Nat.{ℕ, zero, suc, _+_, _-_, _≤_, _<_, max}
-use mathlib.Core.Logic.{⊎-elim}
-use native.Mathlib.Nat.{le-refl, eq-or-lt-of-le, le-of-suc-le-suc}
+use mathlib.Core.Path.{_≡_, sym, ap, ap₂, _∙_}
+use mathlib.Core.Bool.{Bool, cond}
+use Prim.Native.Nat.{ℕ, suc, _+_, _-_, _≤_, max}
 use native.Mathlib.Numerals.{add-one}
 use native.Mathlib.Omega.{arith}
-use Rattle.std.proofs.shelf.Tests.{cond-true, cond-false}
 use Rattle.algebra.specs.Operations.{power}
 use Rattle.algebra.specs.Meaning.{Meaning, Is-code, as-code, operations}
 use Rattle.algebra.proofs.Codes.{product-of-codes}
-use Rattle.survey.specs.Codes.{first-from, count-below, largest-below}
+use Rattle.survey.specs.Codes.{count-below, largest-below}
 
 -- one number more is counted
 pub count-more : (test : ℕ → Bool) (a : ℕ) (found : Bool) (count next : ℕ) → count ≡ count-below a test → found ≡ test a → next ≡ count + cond found 1 0

@@ -1,3 +1,2 @@
-pub mod Requests
 pub mod Codes
 pub mod Findings

@@ -3,7 +3,7 @@ use Prim.Native.Nat.{_-_, _^_, _<_}
 use lib.Dec.{eqb}
 use Rattle.algebra.specs.Operations.{power}
 use Rattle.algebra.specs.Meaning.{operations}
-use Rattle.survey.proofs.Searches.{Fails}
+use Rattle.algebra.proofs.Search.{Fails}
 use Rattle.survey.proofs.codes.period.Given as given
 
 -- x is the product of e - 1 copies, and no smaller number of copies gives one
