@@ -38,11 +38,11 @@ module _ (w o : ℕ) (P T : ℕ → ℕ → ℕ) (p t : Bool) where
     passed-on L = record {
       commutes = λ a b ha hb. same a b ha hb ∙ L .commutes a b ha hb ∙ sym (same b a hb ha);
       associates = λ a b c ha hb hc.
-        ap (λ z. T z c) (same a b ha hb) ∙ same (P a b) c (closed a b ha hb) hc ∙ L .associates a b c ha hb hc
-        ∙ sym (ap (T a) (same b c hb hc) ∙ same a (P b c) ha (closed b c hb hc));
+          ap (λ z. T z c) (same a b ha hb) ∙ same (P a b) c (closed a b ha hb) hc ∙ L .associates a b c ha hb hc
+          ∙ sym (ap (T a) (same b c hb hc) ∙ same a (P b c) ha (closed b c hb hc));
       distributes = λ a b c ha hb hc.
-        same a (bitXor b c) ha (xor-lt w b c hb hc) ∙ L .distributes a b c ha hb hc
-        ∙ sym (ap (λ z. bitXor z (T a c)) (same a b ha hb) ∙ ap (bitXor (P a b)) (same a c ha hc));
+          same a (bitXor b c) ha (xor-lt w b c hb hc) ∙ L .distributes a b c ha hb hc
+          ∙ sym (ap (λ z. bitXor z (T a c)) (same a b ha hb) ∙ ap (bitXor (P a b)) (same a c ha hc));
       one-not-zero = L .one-not-zero;
       one-times = λ a h. same o a (s .one-code) h ∙ L .one-times a h;
       inverse = λ a h not-zero. let i = L .inverse a h not-zero in (i .0, i .1, same a (i .0) h (i .1) ∙ i .2);

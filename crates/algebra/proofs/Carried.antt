@@ -110,14 +110,20 @@ module _ {A : Type 0} {N : Meaning} {Q : Ops A} (K : Carried N Q) where
       pub inverse : (a : ℕ) → Is-code N a → (a ≡ 0 → ⊥) → (b : ℕ) × Is-code N b × (N .product a b ≡ N .one)
       inverse a h not-zero =
           let t = power Q (K .to a) (2 ^ N .width - 2) in
-          let not-nil : K .to a ≡ Q .nil → ⊥ = λ e. not-zero (sym (K .from-to a h) ∙ ap (K .from) e ∙ from-zero) in
-          (K .from t, K .from-code t,
-           K .product-is a (K .from t) h (K .from-code t) ∙ ap (λ u. K .from (Q .mul (K .to a) u)) (K .to-from t)
-           ∙ ap (K .from) (inverse-element (K .to a) not-nil) ∙ from-one)
+          let not-nil : K .to a ≡ Q .nil → ⊥ = λ e. not-zero (sym (K .from-to a h) ∙ ap (K .from) e ∙ from-zero) in (
+            K .from t,
+            K .from-code t,
+            K .product-is a (K .from t) h (K .from-code t) ∙ ap (λ u. K .from (Q .mul (K .to a) u)) (K .to-from t)
+                ∙ ap (K .from) (inverse-element (K .to a) not-nil) ∙ from-one,
+          )
 
       pub carried-laws : Laws N
       carried-laws = record {
-        commutes = commutes; associates = associates; distributes = distributes;
-        one-not-zero = apart; one-times = one-times; inverse = inverse;
+        commutes = commutes;
+        associates = associates;
+        distributes = distributes;
+        one-not-zero = apart;
+        one-times = one-times;
+        inverse = inverse;
         returns = λ a h. power-is a h (2 ^ N .width) ∙ ap (K .from) (returns (K .to a)) ∙ K .from-to a h;
       }

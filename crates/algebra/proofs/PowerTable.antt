@@ -79,8 +79,8 @@ module _ (p g : ℕ) (lo : 2 ≤ p) (hi : p ≤ 511) where
         let is : a - 1 + 1 ≡ a = omega (arith, not-zero) in
         ap (stands p g) (sym is)
         ∙ not-false (stands p g (a - 1 + 1))
-            (some-below-not (λ k. not (stands p g (k + 1))) (places p)
-              (not-true (some-below (places p) (λ k. not (stands p g (k + 1)))) all) (a - 1) (omega (arith, not-zero)))
+        (some-below-not (λ k. not (stands p g (k + 1))) (places p)
+        (not-true (some-below (places p) (λ k. not (stands p g (k + 1)))) all) (a - 1) (omega (arith, not-zero)))
 
     -- ---- for a width of 2 and more, g has an inverse
 
@@ -94,9 +94,9 @@ module _ (p g : ℕ) (lo : 2 ≤ p) (hi : p ≤ 511) where
     not-one wide is =
         let (k, e) = two-found wide in
         let one : entry p g k ≡ 1
-            = entry-live k ∙ power-is (carried p lo hi) (low-bits (degree p) g) h-lt k
-              ∙ ap (λ u. carried p lo hi .from (power (quotient two (modulus p)) u k)) (ap (carried p lo hi .to) is ∙ carried p lo hi .one-is)
-              ∙ ap (carried p lo hi .from) (power-of-one (ring p) k) ∙ from-one (carried p lo hi) in
+        = entry-live k ∙ power-is (carried p lo hi) (low-bits (degree p) g) h-lt k
+        ∙ ap (λ u. carried p lo hi .from (power (quotient two (modulus p)) u k)) (ap (carried p lo hi .to) is ∙ carried p lo hi .one-is)
+        ∙ ap (carried p lo hi .from) (power-of-one (ring p) k) ∙ from-one (carried p lo hi) in
         omega arith
 
     -- zero times anything is zero
@@ -105,7 +105,7 @@ module _ (p g : ℕ) (lo : 2 ≤ p) (hi : p ≤ 511) where
     nil-entry is k =
         entry-live (suc k) ∙ power-is (carried p lo hi) (low-bits (degree p) g) h-lt (suc k)
         ∙ ap (λ u. carried p lo hi .from (quotient two (modulus p) .mul u (power (quotient two (modulus p)) (carried p lo hi .to (low-bits (degree p) g)) k)))
-            (ap (carried p lo hi .to) is ∙ carried p lo hi .zero-is)
+        (ap (carried p lo hi .to) is ∙ carried p lo hi .zero-is)
         ∙ ap (carried p lo hi .from) (nil-mul (ring p) (power (quotient two (modulus p)) (carried p lo hi .to (low-bits (degree p) g)) k))
         ∙ from-zero (carried p lo hi)
 
@@ -150,11 +150,12 @@ module _ (p g : ℕ) (lo : 2 ≤ p) (hi : p ≤ 511) where
             let G = carried p lo hi .to g′ in
             let Gi = power Q G i in
             let sum : Q .add (Q .one) G ≡ Q .mul G Gi
-                = ap (λ z. Q .add z G) (sym (carried p lo hi .one-is)) ∙ sym (carried p lo hi .sum-is 1 g′ 1-code h-lt)
-                  ∙ ap (carried p lo hi .to) (sym e) ∙ entry-to (suc i) ∙ (unfold power in refl) in
-            (Q .add (Q .one) Gi,
-             R .mul-add G (Q .one) Gi ∙ ap₂ (Q .add) (R .mul-one G) (sym sum)
-             ∙ ap (Q .add G) (R .add-comm (Q .one) G) ∙ add-twice R G (Q .one))
+            = ap (λ z. Q .add z G) (sym (carried p lo hi .one-is)) ∙ sym (carried p lo hi .sum-is 1 g′ 1-code h-lt)
+            ∙ ap (carried p lo hi .to) (sym e) ∙ entry-to (suc i) ∙ (unfold power in refl) in (
+              Q .add (Q .one) Gi,
+              R .mul-add G (Q .one) Gi ∙ ap₂ (Q .add) (R .mul-one G) (sym sum)
+                  ∙ ap (Q .add G) (R .add-comm (Q .one) G) ∙ add-twice R G (Q .one),
+            )
 
     -- ---- so every code but zero has an inverse, and the shift field is sound
 
@@ -165,12 +166,14 @@ module _ (p g : ℕ) (lo : 2 ≤ p) (hi : p ≤ 511) where
         let G = carried p lo hi .to (low-bits (degree p) g) in
         let k = logarithm p g a in
         let Uk = power Q U k in
-        let at = found-at a (stands-all a ha not-zero) .1 in
-        (carried p lo hi .from Uk, carried p lo hi .from-code Uk,
-         carried p lo hi .product-is a (carried p lo hi .from Uk) ha (carried p lo hi .from-code Uk)
-         ∙ ap₂ (λ s t. carried p lo hi .from (Q .mul s t)) (ap (carried p lo hi .to) (sym at) ∙ entry-to k) (carried p lo hi .to-from Uk)
-         ∙ ap (carried p lo hi .from) (sym (power-product (ring p) G U k) ∙ ap (λ z. power Q z k) unit-is ∙ power-of-one (ring p) k)
-         ∙ from-one (carried p lo hi))
+        let at = found-at a (stands-all a ha not-zero) .1 in (
+          carried p lo hi .from Uk,
+          carried p lo hi .from-code Uk,
+          carried p lo hi .product-is a (carried p lo hi .from Uk) ha (carried p lo hi .from-code Uk)
+              ∙ ap₂ (λ s t. carried p lo hi .from (Q .mul s t)) (ap (carried p lo hi .to) (sym at) ∙ entry-to k) (carried p lo hi .to-from Uk)
+              ∙ ap (carried p lo hi .from) (sym (power-product (ring p) G U k) ∙ ap (λ z. power Q z k) unit-is ∙ power-of-one (ring p) k)
+              ∙ from-one (carried p lo hi),
+        )
 
     inverse-narrow : degree p ≡ 1 → Inverses p lo hi
     unfolding shift-by
@@ -201,15 +204,15 @@ module _ (p g : ℕ) (lo : 2 ≤ p) (hi : p ≤ 511) where
         let N = places p in
         let count : suc N ≡ 2 ^ degree p = omega (arith, pow-pos (degree p)) in
         let again : Q .mul G (power Q G N) ≡ G
-            = ap (power Q G) count ∙ sym (to-power (carried p lo hi) (low-bits (degree p) g) h-lt (2 ^ degree p))
-              ∙ ap (carried p lo hi .to) (shift-field-laws .returns (low-bits (degree p) g) h-lt) in
+        = ap (power Q G) count ∙ sym (to-power (carried p lo hi) (low-bits (degree p) g) h-lt (2 ^ degree p))
+        ∙ ap (carried p lo hi .to) (shift-field-laws .returns (low-bits (degree p) g) h-lt) in
         sym (one-mul R (power Q G N)) ∙ ap (λ z. Q .mul z (power Q G N)) (sym unit-is ∙ R .mul-comm G U) ∙ R .mul-assoc U G (power Q G N)
         ∙ ap (Q .mul U) again ∙ R .mul-comm U G ∙ unit-is
 
     -- a place past the end is one from the start
     round : (i j : ℕ) → i < places p → j < places p
         → power (quotient two (modulus p)) (carried p lo hi .to (low-bits (degree p) g)) ((i + j) % places p)
-          ≡ power (quotient two (modulus p)) (carried p lo hi .to (low-bits (degree p) g)) (i + j)
+        ≡ power (quotient two (modulus p)) (carried p lo hi .to (low-bits (degree p) g)) (i + j)
     round i j hi′ hj = ⊎-elim narrow wide-case narrow-or-wide
       where
         N : ℕ
@@ -232,9 +235,9 @@ module _ (p g : ℕ) (lo : 2 ≤ p) (hi : p ≤ 511) where
             let q = (i + j) / N in
             let r = (i + j) % N in
             sym (ap pow (sym (div-add-mod' (i + j) N) ∙ ap (λ z. z + r) (mul-comm q N))
-              ∙ power-add (ring p) G (N * q) r
-              ∙ ap (λ z. Q .mul z (pow r)) (power-mul (ring p) G N q ∙ ap (λ z. power Q z q) (runs-round (u .0) (u .1)) ∙ power-of-one (ring p) q)
-              ∙ one-mul (ring p) (pow r))
+            ∙ power-add (ring p) G (N * q) r
+            ∙ ap (λ z. Q .mul z (pow r)) (power-mul (ring p) G N q ∙ ap (λ z. power Q z q) (runs-round (u .0) (u .1)) ∙ power-of-one (ring p) q)
+            ∙ one-mul (ring p) (pow r))
 
     pub same-product : (a b : ℕ) → a < 2 ^ degree p → b < 2 ^ degree p → table-product p g a b ≡ shift-product p a b
     unfolding table-product shift-by
@@ -268,9 +271,9 @@ module _ (p g : ℕ) (lo : 2 ≤ p) (hi : p ≤ 511) where
             let fb = found-at b sb in
             cond-true (stands p g a && stands p g b) value 0 (and-from (stands p g a) (stands p g b) sa sb)
             ∙ same-code (carried p lo hi) value (shift-product p a b) (entry-lt ((i + j) % places p)) (product-lt (carried p lo hi) a b ha hb)
-                (entry-to ((i + j) % places p) ∙ round i j (fa .0) (fb .0) ∙ power-add (ring p) G i j
-                  ∙ ap₂ (Q .mul) (sym (entry-to i) ∙ ap (carried p lo hi .to) (fa .1)) (sym (entry-to j) ∙ ap (carried p lo hi .to) (fb .1))
-                  ∙ sym (to-product (carried p lo hi) a b ha hb))
+            (entry-to ((i + j) % places p) ∙ round i j (fa .0) (fb .0) ∙ power-add (ring p) G i j
+            ∙ ap₂ (Q .mul) (sym (entry-to i) ∙ ap (carried p lo hi .to) (fa .1)) (sym (entry-to j) ∙ ap (carried p lo hi .to) (fb .1))
+            ∙ sym (to-product (carried p lo hi) a b ha hb))
 
     pub full-laws : Laws (table-by true p g)
     unfolding table-by shift-by
@@ -284,7 +287,7 @@ module _ (p g : ℕ) (lo : 2 ≤ p) (hi : p ≤ 511) where
     at-most = degree-is p lo hi .at-most;
     one-code = carried p lo hi .one-code;
     product-code = λ a b ha hb.
-      cond-both (stands p g a && stands p g b) (entry p g ((logarithm p g a + logarithm p g b) % places p)) 0 (λ z. z < 2 ^ degree p)
+        cond-both (stands p g a && stands p g b) (entry p g ((logarithm p g a + logarithm p g b) % places p)) 0 (λ z. z < 2 ^ degree p)
         (λ e. entry-lt ((logarithm p g a + logarithm p g b) % places p)) (λ e. pow-pos (degree p));
   }
 

@@ -112,5 +112,5 @@ unfolding first-from
 first-reaches test zero i k lo hi e = absurd (omega arith)
 first-reaches test (suc n) i k lo hi e =
     cond-both (test i) i (first-from (suc i) n test) (λ z. z ≤ k) (λ _. lo)
-      (λ fails. ⊎-elim (λ (is : i ≡ k). absurd (both-ways (test i) fails (ap test is ∙ e)))
-        (λ less. first-reaches test n (suc i) k less (omega arith) e) (eq-or-lt-of-le lo))
+    (λ fails. ⊎-elim (λ (is : i ≡ k). absurd (both-ways (test i) fails (ap test is ∙ e)))
+    (λ less. first-reaches test n (suc i) k less (omega arith) e) (eq-or-lt-of-le lo))

@@ -41,7 +41,7 @@ module _ (p : ℕ) (lo : 2 ≤ p) (hi : p ≤ 511) where
       product-zero : shift-product p a b ≡ 0
       product-zero =
           sym (remainder-if p lo hi a b 0 ha hb (pow-pos (degree p))
-            (1, xor-zero-r (binary-product a b) ∙ e ∙ sym (binary-carryless 1 1 p (lit< tt) ∙ xor-zero-r (1 * p) ∙ one-mul p)))
+          (1, xor-zero-r (binary-product a b) ∙ e ∙ sym (binary-carryless 1 1 p (lit< tt) ∙ xor-zero-r (1 * p) ∙ one-mul p)))
 
       left-nil : a ≡ 0 → ⊥
       left-nil z = let none : binary-product a b ≡ 0 = ap (λ k. binary-product k b) z ∙ binary-carryless 0 0 b (lit< tt) in omega arith

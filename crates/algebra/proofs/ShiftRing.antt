@@ -127,9 +127,16 @@ module _ (p : ℕ) where
     unfoldable pub carried : Carried (shift-by true p) (quotient two modulus)
     unfolding shift-by
     carried = record {
-      to = tuple; from = code; from-code = code-lt; from-to = code-tuple; to-from = tuple-code;
-      product-is = λ a b ha hb. product-code a b; sum-is = λ a b ha hb. tuple-sum a b;
-      zero-is = tuple-zero; one-is = tuple-one; one-code = 1-lt;
+      to = tuple;
+      from = code;
+      from-code = code-lt;
+      from-to = code-tuple;
+      to-from = tuple-code;
+      product-is = λ a b ha hb. product-code a b;
+      sum-is = λ a b ha hb. tuple-sum a b;
+      zero-is = tuple-zero;
+      one-is = tuple-one;
+      one-code = 1-lt;
     }
 
 pub shift-remainder : Shift-remainder

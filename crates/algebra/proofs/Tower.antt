@@ -48,13 +48,13 @@ module _ {A : Type 0} {O : Ops A} (R : Ring2 O) (c : A) where
 
   pub pair-times : (a b d e : A)
       → times O (relation O c) (a ∷ b ∷ []) (d ∷ e ∷ [])
-        ≡ O .add (O .mul a d) (O .mul (O .mul b e) c) ∷ O .add (O .add (O .mul a e) (O .mul b d)) (O .mul b e) ∷ []
+      ≡ O .add (O .mul a d) (O .mul (O .mul b e) c) ∷ O .add (O .add (O .mul a e) (O .mul b d)) (O .mul b e) ∷ []
   unfolding times timesX plus scale up last zeros
   pair-times a b d e =
       let bd = O .mul b d in
       let be = O .mul b e in
       ap₂ (λ x y. O .add (O .mul a d) (O .add (O .nil) (O .mul y c)) ∷ O .add (O .mul a e) (O .add x (O .mul y (O .one))) ∷ [])
-        (nothing-up bd c) (nothing-up be (O .one))
+      (nothing-up bd c) (nothing-up be (O .one))
       ∙ ap₂ (λ x y. O .add (O .mul a d) x ∷ O .add (O .mul a e) (O .add bd y) ∷ []) (nil-add R (O .mul be c)) (R .mul-one be)
       ∙ ap (λ y. O .add (O .mul a d) (O .mul be c) ∷ y ∷ []) (sym (R .add-assoc (O .mul a e) bd be))
 
@@ -66,7 +66,7 @@ module _ {A : Type 0} {O : Ops A} (R : Ring2 O) (c : A) where
 
   pub pair-mul : (a b d e : A)
       → quotient O (relation O c) .mul (pair-of a b) (pair-of d e)
-        ≡ pair-of (O .add (O .mul a d) (O .mul (O .mul b e) c)) (O .add (O .add (O .mul a e) (O .mul b d)) (O .mul b e))
+      ≡ pair-of (O .add (O .mul a d) (O .mul (O .mul b e) c)) (O .add (O .add (O .mul a e) (O .mul b d)) (O .mul b e))
   unfolding quotient
   pair-mul a b d e = same-tuple _ _ (pair-times a b d e)
 
@@ -102,13 +102,13 @@ module _ {A : Type 0} {O : Ops A} (R : Ring2 O) (c : A) where
         by-nil : b ≡ O .nil → (pair-of a b ≡ quotient O (relation O c) .nil) ⊎ (pair-of a b ≡ quotient O (relation O c) .one)
         by-nil z =
             let aa : O .mul a a ≡ a
-                = sym (R .add-nil (O .mul a a)) ∙ ap (O .add (O .mul a a)) (sym (nil-mul R c) ∙ ap (λ y. O .mul y c) (sym z ∙ sym bb)) ∙ firsts in
+            = sym (R .add-nil (O .mul a a)) ∙ ap (O .add (O .mul a a)) (sym (nil-mul R c) ∙ ap (λ y. O .mul y c) (sym z ∙ sym bb)) ∙ firsts in
             ⊎-elim (λ x. inl (same-tuple _ _ (ap₂ (λ p q. p ∷ q ∷ []) x z))) (λ x. inr (same-tuple _ _ (ap₂ (λ p q. p ∷ q ∷ []) x z))) (own a aa)
 
         by-one : b ≡ O .one → (pair-of a b ≡ quotient O (relation O c) .nil) ⊎ (pair-of a b ≡ quotient O (relation O c) .one)
         by-one z =
             let sum : O .add (O .mul a a) c ≡ a
-                = ap (O .add (O .mul a a)) (sym (one-mul R c) ∙ ap (λ y. O .mul y c) (sym z ∙ sym bb)) ∙ firsts in
+            = ap (O .add (O .mul a a)) (sym (one-mul R c) ∙ ap (λ y. O .mul y c) (sym z ∙ sym bb)) ∙ firsts in
             absurd (no-root a (ap (O .add (O .mul a a)) (sym sum) ∙ add-twice R (O .mul a a) c))
 
     pub own-squares : (u : Tuple A 2) → quotient O (relation O c) .mul u u ≡ u
@@ -116,8 +116,8 @@ module _ {A : Type 0} {O : Ops A} (R : Ring2 O) (c : A) where
     own-squares u e =
         let w = whole u in
         let at : quotient O (relation O c) .mul (pair-of (getD (u .0) 0 (O .nil)) (getD (u .0) 1 (O .nil))) (pair-of (getD (u .0) 0 (O .nil)) (getD (u .0) 1 (O .nil)))
-                ≡ pair-of (getD (u .0) 0 (O .nil)) (getD (u .0) 1 (O .nil))
-            = ap (λ z. quotient O (relation O c) .mul z z) (sym w) ∙ e ∙ w in
+        ≡ pair-of (getD (u .0) 0 (O .nil)) (getD (u .0) 1 (O .nil))
+        = ap (λ z. quotient O (relation O c) .mul z z) (sym w) ∙ e ∙ w in
         ⊎-elim (λ z. inl (w ∙ z)) (λ z. inr (w ∙ z)) (own-pair (getD (u .0) 0 (O .nil)) (getD (u .0) 1 (O .nil)) at)
 
     -- ---- Z to the power q is Z or Z + 1, so to the power q² it is Z
@@ -142,8 +142,8 @@ module _ {A : Type 0} {O : Ops A} (R : Ring2 O) (c : A) where
         ap (λ z. quotient O (relation O c) .mul z z) Z-is
         ∙ pair-mul (O .nil) (O .one) (O .nil) (O .one)
         ∙ same-tuple _ _ (ap₂ (λ x y. x ∷ y ∷ [])
-            (ap₂ (O .add) (mul-nil R (O .nil)) (ap (λ y. O .mul y c) (R .mul-one (O .one)) ∙ one-mul R c))
-            (ap₂ (O .add) (ap₂ (O .add) (nil-mul R (O .one)) (mul-nil R (O .one)) ∙ R .add-nil (O .nil)) (R .mul-one (O .one)) ∙ R .add-comm (O .nil) (O .one)))
+        (ap₂ (O .add) (mul-nil R (O .nil)) (ap (λ y. O .mul y c) (R .mul-one (O .one)) ∙ one-mul R c))
+        (ap₂ (O .add) (ap₂ (O .add) (nil-mul R (O .one)) (mul-nil R (O .one)) ∙ R .add-nil (O .nil)) (R .mul-one (O .one)) ∙ R .add-comm (O .nil) (O .one)))
         ∙ ap₂ (quotient O (relation O c) .add) (sym Z-is) (sym C-is)
 
     module _ (n : ℕ) (fixes : (a : A) → power O a (2 ^ n) ≡ a) where
@@ -234,18 +234,18 @@ module _ (M : Meaning) (s : Shape M) (narrow : M .width ≤ 4) (c : ℕ) where
     at-most = omega arith;
     one-code = one-lt;
     product-code = λ x y hx hy.
-      let P = s .product-code in
-      let a = x % 2 ^ m in
-      let b = x / 2 ^ m in
-      let d = y % 2 ^ m in
-      let e = y / 2 ^ m in
-      let ha : a < 2 ^ m = mod-lt x (pow-pos m) in
-      let hb : b < 2 ^ m = high-lt m x hx in
-      let hd : d < 2 ^ m = mod-lt y (pow-pos m) in
-      let he : e < 2 ^ m = high-lt m y hy in
-      let be = M .product b e in
-      let hbe : be < 2 ^ m = P b e hb he in
-      pair-lt m _ _ (xor-lt m _ _ (P a d ha hd) (P be element hbe element-lt)) (xor-lt m _ _ (xor-lt m _ _ (P a e ha he) (P b d hb hd)) hbe);
+        let P = s .product-code in
+        let a = x % 2 ^ m in
+        let b = x / 2 ^ m in
+        let d = y % 2 ^ m in
+        let e = y / 2 ^ m in
+        let ha : a < 2 ^ m = mod-lt x (pow-pos m) in
+        let hb : b < 2 ^ m = high-lt m x hx in
+        let hd : d < 2 ^ m = mod-lt y (pow-pos m) in
+        let he : e < 2 ^ m = high-lt m y hy in
+        let be = M .product b e in
+        let hbe : be < 2 ^ m = P b e hb he in
+        pair-lt m _ _ (xor-lt m _ _ (P a d ha hd) (P be element hbe element-lt)) (xor-lt m _ _ (xor-lt m _ _ (P a e ha he) (P b d hb hd)) hbe);
   }
 
   -- ---- a sound one, where the element has no root
@@ -270,8 +270,8 @@ module _ (M : Meaning) (s : Shape M) (narrow : M .width ≤ 4) (c : ℕ) where
     unfolding code-ops C has-root
     no-root r e =
         both-ways (has-root M element) rootless
-          (some-below-at (λ r. eqb (bitXor (M .product r r) r) element) (2 ^ M .width) (r .0) (r .1)
-            (eq-eqb (bitXor (M .product (r .0) (r .0)) (r .0)) element (ap (λ (x : Code M). x .0) e)))
+        (some-below-at (λ r. eqb (bitXor (M .product r r) r) element) (2 ^ M .width) (r .0) (r .1)
+        (eq-eqb (bitXor (M .product (r .0) (r .0)) (r .0)) element (ap (λ (x : Code M). x .0) e)))
 
     high-is : (x : ℕ) → x < 2 ^ (2 * M .width) → x / 2 ^ M .width % 2 ^ M .width ≡ x / 2 ^ M .width
     high-is x h = mod-eq-of-lt (high-lt (M .width) x h)
@@ -289,16 +289,16 @@ module _ (M : Meaning) (s : Shape M) (narrow : M .width ≤ 4) (c : ℕ) where
       from-code = λ u. pair-lt (M .width) _ _ (getD (u .0) 0 (K .nil) .1) (getD (u .0) 1 (K .nil) .1);
       from-to = λ x h. ap (pair (M .width) (x % 2 ^ M .width)) (high-is x h) ∙ pair-halves (M .width) x;
       to-from = λ u.
-        let a = getD (u .0) 0 (K .nil) in
-        let b = getD (u .0) 1 (K .nil) in
-        same-tuple _ _ (ap₂ (λ x y. x ∷ y ∷ [])
-            (same M _ _ (low-of-pair (M .width) (a .0) (b .0) (a .1)))
-            (same M _ _ (ap (λ z. z % 2 ^ M .width) (high-of-pair (M .width) (a .0) (b .0) (a .1)) ∙ mod-eq-of-lt (b .1)))
+          let a = getD (u .0) 0 (K .nil) in
+          let b = getD (u .0) 1 (K .nil) in
+          same-tuple _ _ (ap₂ (λ x y. x ∷ y ∷ [])
+          (same M _ _ (low-of-pair (M .width) (a .0) (b .0) (a .1)))
+          (same M _ _ (ap (λ z. z % 2 ^ M .width) (high-of-pair (M .width) (a .0) (b .0) (a .1)) ∙ mod-eq-of-lt (b .1)))
           ∙ sym (both (K .nil) (u .0) (u .1)));
       product-is = λ x y hx hy. product-pairs x y hx hy;
       sum-is = λ x y hx hy. same-tuple _ _ (ap₂ (λ x y. x ∷ y ∷ [])
-            (same M _ _ (xor-mod x y (M .width)))
-            (same M _ _ (ap (λ z. z % 2 ^ M .width) (xor-shr x y (M .width)) ∙ xor-mod (x / 2 ^ M .width) (y / 2 ^ M .width) (M .width))));
+          (same M _ _ (xor-mod x y (M .width)))
+          (same M _ _ (ap (λ z. z % 2 ^ M .width) (xor-shr x y (M .width)) ∙ xor-mod (x / 2 ^ M .width) (y / 2 ^ M .width) (M .width))));
       zero-is = same-tuple _ _ (ap₂ (λ x y. x ∷ y ∷ []) (same M _ _ (mod-eq-of-lt (pow-pos (M .width)))) (same M _ _ (over 0 (pow-pos (M .width)))));
       one-is = same-tuple _ _ (ap₂ (λ x y. x ∷ y ∷ []) (same M _ _ (mod-eq-of-lt (s .one-code))) (same M _ _ (over (M .one) (s .one-code))));
       one-code = one-lt;
@@ -317,7 +317,7 @@ module _ (M : Meaning) (s : Shape M) (narrow : M .width ≤ 4) (c : ℕ) where
     unfolding tower-by K
     live-laws = carried-laws tower-carried (quotient-ring (code-ring M s L) (relation K C)) (omega (arith, s .at-least)) (L .one-not-zero)
         (λ u. ap (λ k. power (quotient K (relation K C)) u (2 ^ k)) (two-mul (M .width))
-            ∙ tower-returns (code-ring M s L) C (code-own-square M s L) no-root (M .width) (code-returns M s L) u)
+        ∙ tower-returns (code-ring M s L) C (code-own-square M s L) no-root (M .width) (code-returns M s L) u)
         (own-squares (code-ring M s L) C (code-own-square M s L) no-root)
 
 -- ---- every field and every c

@@ -24,11 +24,9 @@ pub fn shift_remainder_stands()
 /// A sound power-table field has the products of the shift field of its number.
 pub fn table_alike_stands()
     ensures { λ _. ⌜ Table-alike ⌝ }
-{
-}
+{}
 
 /// Two sound fields with the same width and products have the same one.
 pub fn same_one_stands()
     ensures { λ _. ⌜ Same-one ⌝ }
-{
-}
+{}

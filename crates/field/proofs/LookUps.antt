@@ -47,9 +47,9 @@ entry-more p g k mask x r live masked so-far is =
     let w-is : shift p .width ≡ degree p = unfold shift-by in ap (λ M. M .width) (shift-live p (rg .0) (rg .1)) in
     let m-is : mask ≡ 2 ^ degree p - 1 = masked ∙ ap (λ b. cond b (2 ^ degree p - 1) 0) live in
     let low : bitAnd g mask % 2 ^ shift p .width ≡ g % 2 ^ degree p
-        = ap₂ (λ z w. z % 2 ^ w) (ap (bitAnd g) m-is ∙ and-mask g (degree p)) w-is ∙ mod-eq-of-lt (mod-lt g (pow-pos (degree p))) in
+    = ap₂ (λ z w. z % 2 ^ w) (ap (bitAnd g) m-is ∙ and-mask g (degree p)) w-is ∙ mod-eq-of-lt (mod-lt g (pow-pos (degree p))) in
     let own : x % 2 ^ shift p .width ≡ entry p g k
-        = ap₂ (λ z w. z % 2 ^ w) so-far w-is ∙ mod-eq-of-lt (entry-lt p g (rg .0) (rg .1) k) in
+    = ap₂ (λ z w. z % 2 ^ w) so-far w-is ∙ mod-eq-of-lt (entry-lt p g (rg .0) (rg .1) k) in
     is ∙ ap₂ (shift p .product) low own ∙ ap (power (operations (shift p)) (g % 2 ^ degree p)) (sym (add-one k))
 
 pub entry-first : (p g : ℕ) → 1 ≡ entry p g 0
@@ -91,12 +91,12 @@ module _ (p g k : ℕ) (masked : k ≡ cond (in-range p) (2 ^ degree p - 1) 0) w
       neither : in-range p ≡ true → (stands p g (bitAnd a k) && stands p g (bitAnd b k)) ≡ false
       neither live =
           ⊎-elim (λ e. and-left (stands p g (bitAnd a k)) (stands p g (bitAnd b k)) (lost (bitAnd a k) live e))
-            (λ e. and-right (stands p g (bitAnd a k)) (stands p g (bitAnd b k)) (lost (bitAnd b k) live e)) either
+          (λ e. and-right (stands p g (bitAnd a k)) (stands p g (bitAnd b k)) (lost (bitAnd b k) live e)) either
 
       by : (t : Bool) → in-range p ≡ t → 0 ≡ table-by t p g .product (a % 2 ^ table-by t p g .width) (b % 2 ^ table-by t p g .width)
       by true live =
           sym (ap₂ (table-product p g) (sym (live-low live a)) (sym (live-low live b))
-            ∙ cond-false (stands p g (bitAnd a k) && stands p g (bitAnd b k)) (entry p g ((logarithm p g (bitAnd a k) + logarithm p g (bitAnd b k)) % places p)) 0 (neither live))
+          ∙ cond-false (stands p g (bitAnd a k) && stands p g (bitAnd b k)) (entry p g ((logarithm p g (bitAnd a k) + logarithm p g (bitAnd b k)) % places p)) 0 (neither live))
       by false live = refl
 
   pub places-kept : (a : ℕ) → (kept-log p g a ≡ 255 → ⊥) → kept-log p g a < k
@@ -136,12 +136,12 @@ module _ (p g k : ℕ) (masked : k ≡ cond (in-range p) (2 ^ degree p - 1) 0) w
   pub no-mask : k ≡ 0 → in-range p ≡ false
   no-mask none =
       ⊎-elim
-        (λ (live : in-range p ≡ true).
-          let r = range p live in
-          let two : 2 ^ 1 ≤ 2 ^ degree p = pow-mono (degree-positive p (r .0) (r .1)) in
-          let is : k ≡ 2 ^ degree p - 1 = masked ∙ ap (λ b. cond b (2 ^ degree p - 1) 0) live in
-          absurd (omega arith))
-        (λ out. out) (cases-bool (in-range p))
+      (λ (live : in-range p ≡ true).
+      let r = range p live in
+      let two : 2 ^ 1 ≤ 2 ^ degree p = pow-mono (degree-positive p (r .0) (r .1)) in
+      let is : k ≡ 2 ^ degree p - 1 = masked ∙ ap (λ b. cond b (2 ^ degree p - 1) 0) live in
+      absurd (omega arith))
+      (λ out. out) (cases-bool (in-range p))
 
   -- ---- the table that the code fills
 
@@ -163,7 +163,7 @@ module _ (p g k : ℕ) (masked : k ≡ cond (in-range p) (2 ^ degree p - 1) 0) w
       kept-lowest a pos =
           ap₂ (λ z n. cond (ltb z n) z 255) (same-place a) mask-is
           ∙ ap (λ b. cond b (logarithm p g a) 255)
-              (sym (ap₂ _&&_ live (ap (λ t. not t && ltb (logarithm p g a) (places p)) (ne-eqb a 0 (λ e. omega arith)))))
+          (sym (ap₂ _&&_ live (ap (λ t. not t && ltb (logarithm p g a) (places p)) (ne-eqb a 0 (λ e. omega arith)))))
 
     pub kept-zero : 255 ≡ kept-log p g 0
     unfolding kept-log stands
@@ -175,8 +175,8 @@ module _ (p g k : ℕ) (masked : k ≡ cond (in-range p) (2 ^ degree p - 1) 0) w
     unfolding full kept-log
     verdict logs right =
         ap not
-          (some-below-same (λ i. eqb (getD logs (i + 1) 0) 255) (λ i. not (stands p g (i + 1))) k
-            (λ i h. ap (λ z. eqb z 255) (right (i + 1) (omega arith)) ∙ by (i + 1)) ∙ ap (λ n. some-below n (λ i. not (stands p g (i + 1)))) mask-is)
+        (some-below-same (λ i. eqb (getD logs (i + 1) 0) 255) (λ i. not (stands p g (i + 1))) k
+        (λ i h. ap (λ z. eqb z 255) (right (i + 1) (omega arith)) ∙ by (i + 1)) ∙ ap (λ n. some-below n (λ i. not (stands p g (i + 1)))) mask-is)
       where
         by : (a : ℕ) → eqb (kept-log p g a) 255 ≡ not (stands p g a)
         by a = ⊎-elim

@@ -54,9 +54,9 @@ pairs-product M s m c x y be ad bec ae bd w-is narrow hc hx hy be-is ad-is bec-i
     let small : m ≤ 8 = omega arith in
     let P = M .product in
     let low : (z : ℕ) → as-code M (bitAnd z (1 * 2 ^ m % 2 ^ 32 - 1)) ≡ z % 2 ^ w
-        = λ z. ap (as-code M) (low-is z m small ∙ ap (λ k. z % 2 ^ k) w-is) ∙ own-code M (z % 2 ^ w) (mod-lt z (pow-pos w)) in
+    = λ z. ap (as-code M) (low-is z m small ∙ ap (λ k. z % 2 ^ k) w-is) ∙ own-code M (z % 2 ^ w) (mod-lt z (pow-pos w)) in
     let high : (z : ℕ) → z < 2 ^ (2 * w) → as-code M (z / 2 ^ m) ≡ z / 2 ^ w
-        = λ z h. ap (λ k. as-code M (z / 2 ^ k)) w-is ∙ own-code M (z / 2 ^ w) (high-lt w z h) in
+    = λ z h. ap (λ k. as-code M (z / 2 ^ k)) w-is ∙ own-code M (z / 2 ^ w) (high-lt w z h) in
     let be-e : be ≡ P (x / 2 ^ w) (y / 2 ^ w) = be-is ∙ ap₂ P (high x hx) (high y hy) in
     let be-lt : P (x / 2 ^ w) (y / 2 ^ w) < 2 ^ w = s .product-code (x / 2 ^ w) (y / 2 ^ w) (high-lt w x hx) (high-lt w y hy) in
     let bec-e : bec ≡ P (P (x / 2 ^ w) (y / 2 ^ w)) c = bec-is ∙ ap₂ P (ap (as-code M) be-e ∙ own-code M (P (x / 2 ^ w) (y / 2 ^ w)) be-lt) (own-code M c hc) in
@@ -72,8 +72,8 @@ pairs-product M s m c x y be ad bec ae bd w-is narrow hc hx hy be-is ad-is bec-i
     let yh = high-lt w y hy in
     let l-lt : L < 2 ^ w = xor-lt w (P (x % 2 ^ w) (y % 2 ^ w)) (P (P (x / 2 ^ w) (y / 2 ^ w)) c) (C _ _ xl yl) (C _ _ be-lt hc) in
     let h-lt : H < 2 ^ w
-        = xor-lt w (bitXor (P (x % 2 ^ w) (y / 2 ^ w)) (P (x / 2 ^ w) (y % 2 ^ w))) (P (x / 2 ^ w) (y / 2 ^ w))
-            (xor-lt w (P (x % 2 ^ w) (y / 2 ^ w)) (P (x / 2 ^ w) (y % 2 ^ w)) (C _ _ xl yh) (C _ _ xh yl)) be-lt in
+    = xor-lt w (bitXor (P (x % 2 ^ w) (y / 2 ^ w)) (P (x / 2 ^ w) (y % 2 ^ w))) (P (x / 2 ^ w) (y / 2 ^ w))
+    (xor-lt w (P (x % 2 ^ w) (y / 2 ^ w)) (P (x / 2 ^ w) (y % 2 ^ w)) (C _ _ xl yh) (C _ _ xh yl)) be-lt in
     ap₂ (λ l h. bitOr l (h * 2 ^ m % 2 ^ 8)) (ap₂ bitXor ad-e bec-e) (ap₂ bitXor (ap₂ bitXor ae-e bd-e) be-e)
     ∙ ap (λ k. bitOr L (H * 2 ^ k % 2 ^ 8)) w-is
     ∙ joined w L H narrow l-lt h-lt

@@ -44,14 +44,14 @@ pub written : (entries logs : List ℕ) (n i a : ℕ) → length logs ≡ 256 �
     → getD logs a 0 ≡ lowest-from entries n (i + 1) a → getD (set logs (getD entries i 0) i) a 0 ≡ lowest-from entries n i a
 written entries logs n i a size hi ha before =
     ⊎-elim
-      (λ (is : getD entries i 0 ≡ a).
-        ap (λ z. getD (set logs z i) a 0) is
-        ∙ getD-set-same logs a i 0 (subst (λ z. a < z) (sym size) ha)
-        ∙ sym (lowest-step entries n i a hi ∙ cond-true (eqb (getD entries i 0) a) i (lowest-from entries n (i + 1) a) (eq-eqb (getD entries i 0) a is)))
-      (λ other.
-        getD-set-other logs (getD entries i 0) a i 0 (λ e. other (sym e)) ∙ before
-        ∙ sym (lowest-step entries n i a hi ∙ cond-false (eqb (getD entries i 0) a) i (lowest-from entries n (i + 1) a) (ne-eqb (getD entries i 0) a other)))
-      (cases-eq (getD entries i 0) a)
+    (λ (is : getD entries i 0 ≡ a).
+    ap (λ z. getD (set logs z i) a 0) is
+    ∙ getD-set-same logs a i 0 (subst (λ z. a < z) (sym size) ha)
+    ∙ sym (lowest-step entries n i a hi ∙ cond-true (eqb (getD entries i 0) a) i (lowest-from entries n (i + 1) a) (eq-eqb (getD entries i 0) a is)))
+    (λ other.
+    getD-set-other logs (getD entries i 0) a i 0 (λ e. other (sym e)) ∙ before
+    ∙ sym (lowest-step entries n i a hi ∙ cond-false (eqb (getD entries i 0) a) i (lowest-from entries n (i + 1) a) (ne-eqb (getD entries i 0) a other)))
+    (cases-eq (getD entries i 0) a)
 
 pub lowest-all : (entries : List ℕ) (n a : ℕ) → lowest-from entries n 0 a ≡ lowest entries n a
 unfolding lowest-from lowest

@@ -11,9 +11,6 @@ use crate::tables::all_stand;
 use crate::tables::lowest_places;
 use crate::tables::powers_of;
 
-
-
-
 // The sum of two places of a table, counted round its end.
 fn round(i: usize, j: usize, places: usize) -> usize
     requires first { ⌜ i < places ⌝ }
@@ -22,11 +19,7 @@ fn round(i: usize, j: usize, places: usize) -> usize
     ensures { λ r. ⌜ r ≡ (i + j) % places ⌝ }
 {
     let sum = i + j;
-    if sum < places {
-        sum
-    } else {
-        sum - places
-    }
+    if sum < places { sum } else { sum - places }
 }
 
 pub impl Field for PowerTable as PowerTableField {

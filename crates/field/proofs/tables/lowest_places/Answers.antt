@@ -15,10 +15,11 @@ loop-k-again c =
     let logs = c .loop-k .logs in
     let k = c .loop-k .k in
     let inv = c .loop-k .inv in
-    let up : k - 1 + 1 ≡ k = omega (arith, c .loop-k-test .taken) in
-    (length-set logs (getD powers (k - 1) 0) (k - 1) ∙ inv .0,
-     λ a h. written powers logs (c .args .places) (k - 1) a (inv .0) (omega (arith, c .loop-k-test .taken, c .loop-k .kept .k)) h
-       (inv .1 a h ∙ ap (λ i. lowest-from powers (c .args .places) i a) (sym up)))
+    let up : k - 1 + 1 ≡ k = omega (arith, c .loop-k-test .taken) in (
+      length-set logs _ _ ∙ inv .0,
+      λ a h. written powers logs (c .args .places) (k - 1) a (inv .0) (omega (arith, c .loop-k-test .taken, c .loop-k .kept .k)) h
+          (inv .1 a h ∙ ap (λ i. lowest-from powers (c .args .places) i a) (sym up)),
+    )
 
 pub returns : need.returns
 returns c =
@@ -30,6 +31,6 @@ returns c =
       whole = length-set logs 0 255 ∙ inv .0;
       zero = getD-set-same logs 0 255 0 (omega (arith, inv .0));
       lowest = λ a pos h.
-        getD-set-other logs 0 a 255 0 (λ e. omega arith) ∙ inv .1 a h
-        ∙ ap (λ i. lowest-from powers (c .args .places) i a) done ∙ lowest-all powers (c .args .places) a;
+          getD-set-other logs 0 a 255 0 (λ e. omega arith) ∙ inv .1 a h
+          ∙ ap (λ i. lowest-from powers (c .args .places) i a) done ∙ lowest-all powers (c .args .places) a;
     }

@@ -1,7 +1,5 @@
 use mathlib.Core.Path.{_≡_, refl, sym, ap, subst, _∙_}
-
 use Prim.Native.Nat.{ℕ, _+_, _<_}
-
 use native.Mathlib.Omega.{arith}
 use lib.ListN.{length, getD, set, length-set}
 use lib.Seq.{getD-set-same, getD-set-other}
@@ -18,9 +16,10 @@ loop-k-again c =
     let s = c .args .base .now in
     let g = c .args .generator in
     let k = c .loop-k .k in
-    let inv = c .loop-k .inv in
-    (length-set (c .loop-k .powers) k (c .loop-k .x) ∙ inv .0,
-     entry-more (s .number) g k (s .mask) (c .loop-k .x) (c .product-x .result) (c .pre) (s .masked) (inv .1) (c .product-x .ensures),
-     below-more (λ i. getD (set (c .loop-k .powers) k (c .loop-k .x)) i 0 ≡ entry (s .number) g i) k
-       (λ i h. getD-set-other (c .loop-k .powers) k i (c .loop-k .x) 0 (λ e. omega arith) ∙ inv .2 i h)
-       (getD-set-same (c .loop-k .powers) k (c .loop-k .x) 0 (omega (arith, inv .0, c .loop-k-test .taken, mask-byte (s .number) g (s .mask) (s .masked))) ∙ inv .1))
+    let inv = c .loop-k .inv in (
+      length-set (c .loop-k .powers) k (c .loop-k .x) ∙ inv .0,
+      entry-more (s .number) g k (s .mask) (c .loop-k .x) (c .product-x .result) (c .pre) (s .masked) (inv .1) (c .product-x .ensures),
+      below-more (λ i. getD (set (c .loop-k .powers) k (c .loop-k .x)) i 0 ≡ entry (s .number) g i) k
+          (λ i h. getD-set-other (c .loop-k .powers) k i (c .loop-k .x) 0 (λ e. omega arith) ∙ inv .2 i h)
+          (getD-set-same (c .loop-k .powers) k (c .loop-k .x) 0 (omega (arith, inv .0, c .loop-k-test .taken, mask-byte (s .number) g (s .mask) (s .masked))) ∙ inv .1),
+    )

@@ -27,8 +27,8 @@ returns-then-product-r g c =
     let r = c .loop-r .r in
     let code : r < 2 ^ M .width = subst (λ n. r < n) (count M (c .width-r-end .result) (c .width-r-end .ensures) (c .pre)) (c .loop-r-test .taken) in
     sym (some-below-at (λ r. eqb (bitXor (M .product r r) r) (c .args .c)) (2 ^ M .width) r code
-      (eq-eqb (bitXor (M .product r r) r) (c .args .c)
-        (ap (λ z. bitXor z r) (sym (c .product .ensures ∙ product-of-codes M r r code code)) ∙ c .if-product-r .taken)))
+    (eq-eqb (bitXor (M .product r r) r) (c .args .c)
+    (ap (λ z. bitXor z r) (sym (c .product .ensures ∙ product-of-codes M r r code code)) ∙ c .if-product-r .taken)))
 
 pub loop-r-again : need.loop-r-again
 loop-r-again g c =
@@ -36,8 +36,8 @@ loop-r-again g c =
     let r = c .loop-r .r in
     let code : r < 2 ^ M .width = subst (λ n. r < n) (count M (c .width-r-end .result) (c .width-r-end .ensures) (c .pre)) (c .loop-r-test .taken) in
     below-more (λ k. eqb (bitXor (M .product k k) k) (c .args .c) ≡ false) r (c .loop-r .inv)
-      (ne-eqb (bitXor (M .product r r) r) (c .args .c)
-        (λ e. c .if-product-r .left (ap (λ z. bitXor z r) (c .product .ensures ∙ product-of-codes M r r code code) ∙ e)))
+    (ne-eqb (bitXor (M .product r r) r) (c .args .c)
+    (λ e. c .if-product-r .left (ap (λ z. bitXor z r) (c .product .ensures ∙ product-of-codes M r r code code) ∙ e)))
 
 pub returns : need.returns
 unfolding has-root
@@ -45,4 +45,4 @@ returns g c =
     let M = g .F·Field .meaning (c .args .base .now) in
     let all = count M (c .width-r-end .result) (c .width-r-end .ensures) (c .pre) in
     sym (some-below-none (λ r. eqb (bitXor (M .product r r) r) (c .args .c)) (2 ^ M .width)
-      (λ k h. c .loop-r .inv k (omega (arith, c .loop-r-test .left, all))))
+    (λ k h. c .loop-r .inv k (omega (arith, c .loop-r-test .left, all))))

@@ -15,16 +15,18 @@ pub returns-in-Some : need.returns-in-Some
 returns-in-Some c =
     let k = c .in-Some .ensures tt .cases in
     subst (λ t. Cases (c .table-layer .result) (Says t) (Faulty t))
-      (sym (whole (codes "table ") (c .args .text .now) (c .in-Some .rest .now) (k .0) (k .1 .1) (k .2))) (c .table-layer .ensures)
+    (sym (whole (codes "table ") (c .args .text .now) (c .in-Some .rest .now) (k .0) (k .1 .1) (k .2))) (c .table-layer .ensures)
 
 pub returns-in-Some-strip-prefix : need.returns-in-Some-strip-prefix
 returns-in-Some-strip-prefix c =
     let k = c .in-Some-strip-prefix .ensures tt .cases in
     subst (λ t. Cases (c .tower-layer .result) (Says t) (Faulty t))
-      (sym (whole (codes "tower ") (c .args .text .now) (c .in-Some-strip-prefix .rest .now) (k .0) (k .1 .1) (k .2))) (c .tower-layer .ensures)
+    (sym (whole (codes "tower ") (c .args .text .now) (c .in-Some-strip-prefix .rest .now) (k .0) (k .1 .1) (k .2))) (c .tower-layer .ensures)
 
 pub returns-in-None : need.returns-in-None
 returns-in-None c =
-    let k = c .in-Some-strip-prefix-2 .ensures tt .cases in
-    (c .in-Some-strip-prefix-2 .rest .now,
-     whole (codes "shift ") (c .args .text .now) (c .in-Some-strip-prefix-2 .rest .now) (k .0) (k .1 .1) (k .2), c .in-None .ensures tt)
+    let k = c .in-Some-strip-prefix-2 .ensures tt .cases in (
+      c .in-Some-strip-prefix-2 .rest .now,
+      whole (codes "shift ") (c .args .text .now) (c .in-Some-strip-prefix-2 .rest .now) (k .0) (k .1 .1) (k .2),
+      c .in-None .ensures tt,
+    )

@@ -31,8 +31,8 @@ returns-then-x-one g c =
     let test : ℕ → Bool = λ k. eqb (power (operations M) a k) (M .one) in
     let within : e ≤ 2 ^ M .width = omega (arith, c .loop-e-test .taken, c .number-of-codes-e-end .ensures) in
     let first : first-from 1 (2 ^ M .width) test ≡ e
-        = first-found test (2 ^ M .width) 1 e (c .loop-e .kept .e) (omega arith) (inv .2)
-            (eq-eqb (power (operations M) a e) (M .one) (sym is ∙ c .if-x-one .taken ∙ c .one-one .ensures)) in
+    = first-found test (2 ^ M .width) 1 e (c .loop-e .kept .e) (omega arith) (inv .2)
+    (eq-eqb (power (operations M) a e) (M .one) (sym is ∙ c .if-x-one .taken ∙ c .one-one .ensures)) in
     sym (ap (λ k. cond (leb k (2 ^ M .width)) k 0) first ∙ cond-true (leb e (2 ^ M .width)) e 0 (le-leb e (2 ^ M .width) within))
 
 pub loop-e-again : need.loop-e-again
@@ -59,5 +59,5 @@ returns g c =
     let n = 2 ^ M .width in
     let test : ℕ → Bool = λ k. eqb (power (operations M) (c .args .a) k) (M .one) in
     let none : first-from 1 n test ≡ 1 + n
-        = first-none test n 1 (λ k lo hi. c .loop-e .inv .2 k lo (omega (arith, c .loop-e-test .left, c .number-of-codes-e-end .ensures))) in
+    = first-none test n 1 (λ k lo hi. c .loop-e .inv .2 k lo (omega (arith, c .loop-e-test .left, c .number-of-codes-e-end .ensures))) in
     sym (ap (λ k. cond (leb k n) k 0) none ∙ cond-false (leb (1 + n) n) (1 + n) 0 (lt-leb (1 + n) n (omega arith)))

@@ -19,7 +19,7 @@ logged t a = t .logarithms (bitAnd a (t .mask)) (and-le-r a (t .mask))
 place : (t : PowerTable) (a : ℕ) → (getD (t .logs) (bitAnd a (t .mask)) 0 ≡ 255 → ⊥) → getD (t .logs) (bitAnd a (t .mask)) 0 < t .mask
 place t a some =
     subst (λ z. z < t .mask) (sym (logged t a))
-      (places-kept (t .number) (t .generator) (t .mask) (t .masked) (bitAnd a (t .mask)) (λ e. some (logged t a ∙ e)))
+    (places-kept (t .number) (t .generator) (t .mask) (t .masked) (bitAnd a (t .mask)) (λ e. some (logged t a ∙ e)))
 
 round-lt : (t : PowerTable) (a r : ℕ) → (getD (t .logs) (bitAnd a (t .mask)) 0 ≡ 255 → ⊥) → (n : ℕ) → r ≡ n % t .mask → r < t .mask
 round-lt t a r some n is = let at = place t a some in subst (λ z. z < t .mask) (sym is) (mod-lt n (omega arith))
@@ -28,7 +28,7 @@ pub returns-then-i : need.returns-then-i
 returns-then-i c =
     let t = c .args .self .now in
     zero-product (t .number) (t .generator) (t .mask) (t .masked) (c .args .a) (c .args .b)
-      (⊎-elim (λ e. inl (sym (logged t (c .args .a)) ∙ e)) (λ both. inr (sym (logged t (c .args .b)) ∙ both .1)) (c .then-i .either))
+    (⊎-elim (λ e. inl (sym (logged t (c .args .a)) ∙ e)) (λ both. inr (sym (logged t (c .args .b)) ∙ both .1)) (c .then-i .either))
 
 pub round-requires : need.round-requires
 round-requires c κs =
@@ -53,4 +53,4 @@ returns c =
     t .entries (c .round .result) (round-lt t a (c .round .result) (c .if-i .left) _ (c .round .ensures))
     ∙ ap (entry (t .number) (t .generator)) (c .round .ensures ∙ ap₂ (λ i j. (i + j) % t .mask) (logged t a) (logged t b))
     ∙ entry-product (t .number) (t .generator) (t .mask) (t .masked) a b
-        (λ e. c .if-i .left (logged t a ∙ e)) (λ e. c .if-j .left (logged t b ∙ e))
+    (λ e. c .if-i .left (logged t a ∙ e)) (λ e. c .if-j .left (logged t b ∙ e))

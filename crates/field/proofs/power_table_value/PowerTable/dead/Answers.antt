@@ -14,11 +14,25 @@ pub ghost-result : need.ghost-result
 unfolding power-table table-by dead kept-log
 ghost-result c =
     let p = c .args .number in
-    let g = c .args .generator in
-    (sym (ap (λ b. table-by b p g .width) (c .pre)),
-     (sym (ap (λ b. cond b (2 ^ degree p - 1) 0) (c .pre)),
-      (sym (ap (λ b. table-by b p g .sound) (c .pre)),
-       (refl, (refl,
-        (λ k h. absurd (omega arith),
-         (λ a h. getD-replicate 256 a 255 0 (omega arith) ∙ sym (cond-false (in-range p && stands p g a) (logarithm p g a) 255 (and-left (in-range p) (stands p g a) (c .pre))),
-          tt)))))))
+    let g = c .args .generator in (
+      sym (ap (λ b. table-by b p g .width) (c .pre)),
+      (
+        sym (ap (λ b. cond b (2 ^ degree p - 1) 0) (c .pre)),
+        (
+          sym (ap (λ b. table-by b p g .sound) (c .pre)),
+          (
+            refl,
+            (
+              refl,
+              (
+                λ k h. absurd (omega arith),
+                (
+                  λ a h. getD-replicate 256 a 255 0 (omega arith) ∙ sym (cond-false (in-range p && stands p g a) (logarithm p g a) 255 (and-left (in-range p) (stands p g a) (c .pre))),
+                  tt,
+                ),
+              ),
+            ),
+          ),
+        ),
+      ),
+    )

@@ -21,10 +21,15 @@ ghost-result c =
     let logs = c .lowest-places-logs .ensures in
     let small = mask-byte p g (s .mask) (s .masked) in
     let right : (a : ℕ) → a ≤ s .mask → getD (c .lowest-places-logs .result) a 0 ≡ kept-log p g a
-        = λ a h. ⊎-elim (λ (z : a ≡ 0). ap (λ z. getD (c .lowest-places-logs .result) z 0) z ∙ logs .zero ∙ kept-zero p g (s .mask) (s .masked) (c .pre) ∙ ap (kept-log p g) (sym z))
-            (λ some. logs .lowest a (omega (arith, some)) (omega arith) ∙ kept-lowest p g (s .mask) (s .masked) (c .pre) (c .powers-of-powers .result) (powers .entries) a (omega (arith, some)))
-            (cases-eq a 0) in
-    (s .measured ∙ ap degree (s .kept ∙ ap (λ b. cond b p 2) (c .pre)) ∙ sym (ap (λ b. table-by b p g .width) (c .pre)),
-     (s .masked,
-      (c .all-stand-sound .ensures ∙ verdict p g (s .mask) (s .masked) (c .pre) (c .lowest-places-logs .result) right ∙ sym (ap (λ b. table-by b p g .sound) (c .pre)),
-       (powers .whole, (logs .whole, (powers .entries, (right, tt)))))))
+    = λ a h. ⊎-elim (λ (z : a ≡ 0). ap (λ z. getD (c .lowest-places-logs .result) z 0) z ∙ logs .zero ∙ kept-zero p g (s .mask) (s .masked) (c .pre) ∙ ap (kept-log p g) (sym z))
+    (λ some. logs .lowest a (omega (arith, some)) (omega arith) ∙ kept-lowest p g (s .mask) (s .masked) (c .pre) (c .powers-of-powers .result) (powers .entries) a (omega (arith, some)))
+    (cases-eq a 0) in (
+      s .measured ∙ ap degree (s .kept ∙ ap (λ b. cond b p 2) (c .pre)) ∙ sym (ap (λ b. table-by b p g .width) (c .pre)),
+      (
+        s .masked,
+        (
+          c .all-stand-sound .ensures ∙ verdict p g (s .mask) (s .masked) (c .pre) (c .lowest-places-logs .result) right ∙ sym (ap (λ b. table-by b p g .sound) (c .pre)),
+          (powers .whole, (logs .whole, (powers .entries, (right, tt)))),
+        ),
+      ),
+    )
