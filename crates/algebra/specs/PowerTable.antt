@@ -31,6 +31,7 @@ table-product p g a b = cond (stands p g a && stands p g b) (entry p g ((logarit
 unfoldable pub full : ℕ → ℕ → Bool
 full p g = not (some-below (places p) (λ k. not (stands p g (k + 1))))
 
+-- the power-table field where p can make one, and the dead field where it cannot
 unfoldable pub table-by : Bool → ℕ → ℕ → Meaning
 table-by false p g = dead
 table-by true p g = record { width = degree p; one = 1; product = table-product p g; sound = full p g }

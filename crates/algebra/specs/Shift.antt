@@ -11,7 +11,7 @@ use Rattle.algebra.specs.Tuples.{times}
 use Rattle.algebra.specs.Polynomials.{poly-product}
 use Rattle.algebra.specs.Bits.{two, bits, number}
 
--- the plain product of two polynomials, each a number (a number n has fewer than n bits, or is 0 or 1)
+-- the plain product of two polynomials, each a number; n bits are enough for a number n
 unfoldable pub binary-product : ℕ → ℕ → ℕ
 binary-product a b = number (poly-product two (bits a a) (bits b b))
 
@@ -36,6 +36,7 @@ shift-product p a b = let m = degree p in number (times two (bits m p) (bits m a
 unfoldable pub in-range : ℕ → Bool
 in-range p = leb 2 p && leb p 511
 
+-- the shift field where p can make one, and the dead field where it cannot
 unfoldable pub shift-by : Bool → ℕ → Meaning
 shift-by false p = dead
 shift-by true p = record { width = degree p; one = 1; product = shift-product p; sound = not (splits p) }

@@ -24,6 +24,7 @@ tower-product M c x y =
 unfoldable pub has-root : Meaning → ℕ → Bool
 has-root M c = some-below (2 ^ M .width) (λ r. eqb (bitXor (M .product r r) r) c)
 
+-- the tower on a field that is narrow enough, and the dead field on a wider one
 unfoldable pub tower-by : Bool → Meaning → ℕ → Meaning
 tower-by false M c = dead
 tower-by true M c =

@@ -1,7 +1,6 @@
 -- Tuples over any carrier, and their product modulo a monic polynomial.
 -- A tuple of v elements is read as a polynomial of degree below v, the lowest coefficient first. A modulus X^v + f is the tuple f of its
 -- v low coefficients; since a + a is zero, X^v stands for f.
-use mathlib.Core.Path.{_≡_, refl, ap}
 use mathlib.Core.List.{List, [], _∷_}
 use Prim.Native.Nat.{ℕ, zero, suc}
 use lib.ListN.{length}

@@ -12,5 +12,6 @@ abbrev pub checked-if : Bool → Meaning → Option Checked
 checked-if true M = Some (record { invertible = invertible M; longest = longest-period M })
 checked-if false M = None
 
+-- its width, its one, and what came of going through it
 abbrev pub findings : Meaning → Findings
 findings M = record { width = M .width; one = M .one; checked = checked-if (M .sound) M }

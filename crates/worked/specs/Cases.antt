@@ -26,17 +26,20 @@ yields (multiplies-as M N) = eqb (M .width) (N .width) && not (differ M N)
 yields (is-sound M) = M .sound
 yields (is-unsound M) = not (M .sound)
 
+-- they yield every example of a list
 unfoldable pub all-yield : List Case → Bool
 all-yield [] = true
 all-yield (c ∷ cs) = yields c && all-yield cs
 
--- the tower of four elements, and one of sixteen on it
+-- the tower of four elements
 unfoldable pub four : Meaning
 four = tower (shift 2) 1
 
+-- a tower of sixteen on it
 unfoldable pub sixteen : Meaning
 sixteen = tower four 2
 
+-- the examples
 unfoldable pub cases : List Case
 cases =
     product-is (shift 7) 2 2 3
