@@ -14,6 +14,8 @@ pub mod ShiftRing
 pub mod Shift
 pub mod Standard
 pub mod Alike
+pub mod Exponent
+pub mod Steps
 pub mod PowerTable
 pub mod CodeRing
 pub mod Tower

@@ -114,3 +114,8 @@ first-reaches test (suc n) i k lo hi e =
     cond-both (test i) i (first-from (suc i) n test) (λ z. z ≤ k) (λ _. lo)
     (λ fails. ⊎-elim (λ (is : i ≡ k). absurd (both-ways (test i) fails (ap test is ∙ e)))
     (λ less. first-reaches test n (suc i) k less (omega arith) e) (eq-or-lt-of-le lo))
+
+pub first-start : (test : ℕ → Bool) (n i : ℕ) → i ≤ first-from i n test
+unfolding first-from
+first-start test zero i = le-refl i
+first-start test (suc n) i = cond-both (test i) i (first-from (suc i) n test) (λ k. i ≤ k) (λ e. le-refl i) (λ e. let h = first-start test n (suc i) in omega arith)

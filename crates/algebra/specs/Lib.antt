@@ -10,3 +10,5 @@ pub mod Standard
 pub mod PowerTable
 pub mod Tower
 pub mod Alike
+pub mod Exponent
+pub mod Steps

@@ -3,17 +3,19 @@ use mathlib.Core.Bool.{Bool, true, false, not, _&&_}
 use mathlib.Core.List.{List, [], _∷_}
 use Prim.Native.Nat.{ℕ, _^_}
 use lib.Dec.{eqb}
+use Rattle.algebra.specs.Exponent.{inverse-exponent}
 use Rattle.algebra.specs.Meaning.{Meaning}
 use Rattle.algebra.specs.Search.{some-below}
 use Rattle.algebra.specs.Shift.{shift}
 use Rattle.algebra.specs.Tower.{tower}
 
--- what an example says of a field
+-- what an example says of a field, or of the exponent that undoes 1 + q^t for m, v and t
 pub data Case : Type 0 where
   product-is : Meaning → ℕ → ℕ → ℕ → Case
   multiplies-as : Meaning → Meaning → Case
   is-sound : Meaning → Case
   is-unsound : Meaning → Case
+  exponent-is : ℕ → ℕ → ℕ → ℕ → Case
 
 -- some two codes have another product in the second field
 unfoldable pub differ : Meaning → Meaning → Bool
@@ -25,6 +27,7 @@ yields (product-is M a b r) = eqb (M .product a b) r
 yields (multiplies-as M N) = eqb (M .width) (N .width) && not (differ M N)
 yields (is-sound M) = M .sound
 yields (is-unsound M) = not (M .sound)
+yields (exponent-is m v t e) = eqb (inverse-exponent m v t) e
 
 -- they yield every example of a list
 unfoldable pub all-yield : List Case → Bool
@@ -51,4 +54,7 @@ cases =
     ∷ is-unsound (tower four 1)
     ∷ is-sound (tower sixteen 8)
     ∷ is-unsound (tower sixteen 4)
+    ∷ exponent-is 1 3 1 5
+    ∷ exponent-is 1 5 2 25
+    ∷ exponent-is 2 3 1 38
     ∷ []
