@@ -186,7 +186,7 @@ module _ (m l r b : ℕ) (hm : 1 ≤ m) (hl : 1 ≤ l) (hb : 1 ≤ b) where
       let p : P + 1 ≡ q ^ t = less-one q (q ^ t) A B a (telescopes q t) in
       let square : q ^ (2 * t) ≡ (P + 1) * (P + 1) = ap (λ k. q ^ k) (two-mul t) ∙ pow-add q t t ∙ ap₂ _*_ (sym p) (sym p) in
       let c : (P + 1) * (P + 1) * C + 1 ≡ C + W
-          = ap (λ z. z * C + 1) (sym square) ∙ telescopes (q ^ (2 * t)) l ∙ ap (λ z. C + z) (power-power q (2 * t) l) in
+      = ap (λ z. z * C + 1) (sym square) ∙ telescopes (q ^ (2 * t)) l ∙ ap (λ z. C + z) (power-power q (2 * t) l) in
       let whole = whole-product P C W H c (half-is ∙ sym p) in
       let v-is : W * (P + 1) ≡ 1 + N * sum-of-powers (N + 1) b = ap (λ z. W * z) p ∙ top-is ∙ one-more-than N b in
       ap (λ z. (1 + z) * ((A * B * C + W) * H)) (sym p)

@@ -36,11 +36,9 @@ pub fn same_one_stands()
 /// The exponent that undoes 1 + q^t modulo q^v − 1 exists, is the only one below q^v − 1, and is what the closed formula leaves.
 pub fn inverse_exponent_stands()
     ensures { λ _. ⌜ Inverse-stands ⌝ }
-{
-}
+{}
 
 /// In any such ring in which every element is its own q^v-th power, raising to 1 + q^t and to that exponent undo each other.
 pub fn steps_undo_stands<T>()
     ensures { λ _. ⌜ ((O : Ops T) → Ring2 O → Steps-undo O) ⌝ }
-{
-}
+{}
