@@ -5,6 +5,7 @@ pub mod Polynomials
 pub mod Powers
 pub mod Bits
 pub mod Codes
+pub mod Closed
 pub mod Search
 pub mod Binary
 pub mod Trial
@@ -14,6 +15,7 @@ pub mod ShiftRing
 pub mod Shift
 pub mod Standard
 pub mod Alike
+pub mod Entries
 pub mod Exponent
 pub mod Steps
 pub mod PowerTable

@@ -1,0 +1,5 @@
+//! Arithmetic on blocks of codes over any field.
+mod product;
+mod tuples;
+pub use product::multiply;
+pub use tuples::{add_multiple, multiply_by_x};
