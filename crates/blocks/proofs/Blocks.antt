@@ -43,7 +43,7 @@ blank M f a b v h = ap (λ n. replicate n 0) h ∙ zeros-are M (length b) ∙ ap
 -- one coefficient more
 pub next-coefficient : (M : Meaning) (f a b : List ℕ) (i : ℕ) → 0 < i → i ≤ length a
     → plus (operations M) (scale (operations M) (getD a (i - 1) 0) b) (timesX (operations M) f (times (operations M) f (drop i a) b))
-      ≡ times (operations M) f (drop (i - 1) a) b
+    ≡ times (operations M) f (drop (i - 1) a) b
 unfolding times
 next-coefficient M f a b i pos h =
     let e : i ≡ suc (i - 1) = omega arith in

@@ -15,8 +15,8 @@ written : (x old new : List ℕ) → length x ≡ length old → length new ≡ 
 written x old new hx hn each =
     same-list 0 x new (hx ∙ sym hn)
     (λ k. ⊎-elim (each k)
-      (λ (beyond : length old ≤ k). List·getD-eq-default x 0 (subst (λ n. n ≤ k) (sym hx) beyond) ∙ sym (List·getD-eq-default new 0 (subst (λ n. n ≤ k) (sym hn) beyond)))
-      (cases-lt k (length old)))
+    (λ (beyond : length old ≤ k). List·getD-eq-default x 0 (subst (λ n. n ≤ k) (sym hx) beyond) ∙ sym (List·getD-eq-default new 0 (subst (λ n. n ≤ k) (sym hn) beyond)))
+    (cases-lt k (length old)))
 
 -- x is the old block below i and the new one from i on
 pub record From (x old new : List ℕ) (i : ℕ) : Type 0 where
@@ -30,7 +30,7 @@ lower x old new i v f h is = record {
   size = length-set x i v ∙ f .size;
   kept = λ k less. getD-set-other x i k v 0 (λ e. omega arith) ∙ f .kept k (omega arith);
   done = λ k from below.
-    ⊎-elim (λ (e : k ≡ i). ap (λ z. getD (set x i v) z 0) e ∙ getD-set-same x i v 0 (subst (λ n. i < n) (sym (f .size)) h) ∙ is ∙ ap (λ z. getD new z 0) (sym e))
+      ⊎-elim (λ (e : k ≡ i). ap (λ z. getD (set x i v) z 0) e ∙ getD-set-same x i v 0 (subst (λ n. i < n) (sym (f .size)) h) ∙ is ∙ ap (λ z. getD new z 0) (sym e))
       (λ other. getD-set-other x i k v 0 other ∙ f .done k (omega (arith, other)) below) (cases-eq k i);
 }
 
@@ -39,8 +39,8 @@ pub bottom : (x old new : List ℕ) (i v : ℕ) → From x old new i → i ≤ 1
 bottom x old new i v f h pos is hn =
     written (set x 0 v) old new (length-set x 0 v ∙ f .size) hn
     (λ k below.
-      ⊎-elim (λ (e : k ≡ 0). ap (λ z. getD (set x 0 v) z 0) e ∙ getD-set-same x 0 v 0 (subst (λ n. 0 < n) (sym (f .size)) pos) ∙ is ∙ ap (λ z. getD new z 0) (sym e))
-      (λ other. getD-set-other x 0 k v 0 other ∙ f .done k (omega (arith, other)) below) (cases-eq k 0))
+    ⊎-elim (λ (e : k ≡ 0). ap (λ z. getD (set x 0 v) z 0) e ∙ getD-set-same x 0 v 0 (subst (λ n. 0 < n) (sym (f .size)) pos) ∙ is ∙ ap (λ z. getD new z 0) (sym e))
+    (λ other. getD-set-other x 0 k v 0 other ∙ f .done k (omega (arith, other)) below) (cases-eq k 0))
 
 -- x is the new block below i and the old one from i on
 pub record Below (x old new : List ℕ) (i : ℕ) : Type 0 where
@@ -53,7 +53,7 @@ pub higher : (x old new : List ℕ) (i v : ℕ) → Below x old new i → i < le
 higher x old new i v b h is = record {
   size = length-set x i v ∙ b .size;
   done = λ k less.
-    ⊎-elim (λ (e : k ≡ i). ap (λ z. getD (set x i v) z 0) e ∙ getD-set-same x i v 0 (subst (λ n. i < n) (sym (b .size)) h) ∙ is ∙ ap (λ z. getD new z 0) (sym e))
+      ⊎-elim (λ (e : k ≡ i). ap (λ z. getD (set x i v) z 0) e ∙ getD-set-same x i v 0 (subst (λ n. i < n) (sym (b .size)) h) ∙ is ∙ ap (λ z. getD new z 0) (sym e))
       (λ other. getD-set-other x i k v 0 other ∙ b .done k (omega (arith, other))) (cases-eq k i);
   kept = λ k from. getD-set-other x i k v 0 (λ e. omega arith) ∙ b .kept k (omega arith);
 }

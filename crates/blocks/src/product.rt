@@ -5,7 +5,8 @@ ghost use lib.ListN.{length};
 ghost use Rattle.algebra.specs.Meaning.{operations};
 ghost use Rattle.algebra.specs.Tuples.{times};
 ghost use Rattle.blocks.specs.Codes.{Codes};
-use crate::tuples::{add_multiple, multiply_by_x};
+use crate::tuples::add_multiple;
+use crate::tuples::multiply_by_x;
 use field::Field;
 
 /// Writes `a` times `b` modulo X^v + f, where `modulus` has the v low coefficients f.

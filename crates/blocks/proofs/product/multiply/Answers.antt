@@ -25,7 +25,7 @@ multiply-by-x-requires g c κs =
       same = same;
       some = subst (λ n. 0 < n) (sym same) (c .pre .some);
       codes = subst (Codes M) (sym (c .loop-i .inv))
-        (times-codes M (g .F·Field·met .shape x) (c .args .modulus .now) (c .args .a .now) (c .args .b .now) (c .loop-i .i) (c .pre .modulus) (c .pre .left) (c .pre .right));
+          (times-codes M (g .F·Field·met .shape x) (c .args .modulus .now) (c .args .a .now) (c .args .b .now) (c .loop-i .i) (c .pre .modulus) (c .pre .left) (c .pre .right));
       modulus = c .pre .modulus;
     }
 
@@ -33,8 +33,8 @@ pub add-multiple-requires : need.add-multiple-requires
 add-multiple-requires g c κs =
     record {
       same = ap length (c .multiply-by-x .ensures)
-        ∙ length-timesX (operations (g .F·Field .meaning (c .args .field .now))) (c .args .modulus .now) (c .loop-i .product) (c .loop-i .kept .product ∙ c .fill .ensures .len ∙ c .pre .room)
-        ∙ sym (c .pre .operand);
+          ∙ length-timesX (operations (g .F·Field .meaning (c .args .field .now))) (c .args .modulus .now) (c .loop-i .product) (c .loop-i .kept .product ∙ c .fill .ensures .len ∙ c .pre .room)
+          ∙ sym (c .pre .operand);
       factor = c .pre .left (c .loop-i .i - 1) (omega (arith, c .loop-i-test .taken, c .loop-i .kept .i));
       codes = c .pre .right;
     }

@@ -26,10 +26,10 @@ loop-i-again g c =
     let hb : i < length block = c .loop-i-test .taken in
     let hs : i < length old = subst (λ n. i < n) (sym (c .pre .same)) hb in
     let value : bitXor (getD (c .loop-i .sum) i 0) (c .product .result) ≡ getD (plus O (scale O s block) old) i 0
-        = ap (λ z. bitXor z (c .product .result)) (c .loop-i .inv .kept i (omega arith))
-          ∙ ap (bitXor (getD old i 0)) (c .product .ensures ∙ product-of-codes M s (getD block i 0) (c .pre .factor) (c .pre .codes i hb) ∙ sym (scale-at O s block i 0 hb))
-          ∙ xor-comm (getD old i 0) (getD (scale O s block) i 0)
-          ∙ sym (plus-at O (scale O s block) old i 0 (subst (λ n. i < n) (sym (length-scale O s block)) hb) hs) in
+    = ap (λ z. bitXor z (c .product .result)) (c .loop-i .inv .kept i (omega arith))
+    ∙ ap (bitXor (getD old i 0)) (c .product .ensures ∙ product-of-codes M s (getD block i 0) (c .pre .factor) (c .pre .codes i hb) ∙ sym (scale-at O s block i 0 hb))
+    ∙ xor-comm (getD old i 0) (getD (scale O s block) i 0)
+    ∙ sym (plus-at O (scale O s block) old i 0 (subst (λ n. i < n) (sym (length-scale O s block)) hb) hs) in
     higher (c .loop-i .sum) old (plus O (scale O s block) old) i (bitXor (getD (c .loop-i .sum) i 0) (c .product .result)) (c .loop-i .inv) hs value
 
 pub returns : need.returns
