@@ -6,7 +6,7 @@ use Prim.Native.Nat.{ℕ, zero, suc, _^_, _<_}
 use lib.Bits.{bitXor, xor-lt}
 use Rattle.algebra.specs.Operations.{power}
 use Rattle.algebra.specs.Meaning.{Meaning, Shape, Laws, Is-code, operations}
-use Rattle.algebra.specs.Alike.{Alike, Same-one}
+use Rattle.algebra.specs.Alike.{Same-one}
 
 pub same-one : Same-one
 same-one M N s t L J alike =

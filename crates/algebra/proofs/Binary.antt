@@ -2,7 +2,7 @@
 -- Assumes nothing.
 use mathlib.Core.Path.{_≡_, refl, sym, ap, ap₂, subst, _∙_}
 use mathlib.Core.Bool.{Bool, true, false, xor, cond}
-use mathlib.Core.List.{List, [], _∷_, _++_}
+use mathlib.Core.List.{List, [], _∷_}
 use Prim.Native.Nat.{ℕ, zero, suc, _+_, _-_, _*_, _/_, _%_, _^_, _≤_, _<_}
 use native.Mathlib.Nat.{zero-add, mul-zero, zero-mul, one-mul, pow-suc, mod-lt}
 use native.Mathlib.Omega.{arith}
@@ -12,7 +12,7 @@ use lib.Arith.{lt-one}
 use lib.ListN.{length}
 use lib.Pow.{high, low, shr-shr}
 use native.Mathlib.Numerals.{add-one}
-use Rattle.algebra.specs.Tuples.{plus, scale, up, last, timesX, times}
+use Rattle.algebra.specs.Tuples.{scale, up, last, timesX, times}
 use Rattle.algebra.specs.Polynomials.{coefficient, Same, poly-sum, poly-product, monic}
 use Rattle.algebra.specs.Bits.{two, bits, number}
 use Rattle.algebra.specs.Shift.{binary-product}

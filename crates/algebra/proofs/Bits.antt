@@ -1,9 +1,9 @@
 -- Bits and numbers: the two-element field is a ring, and a number is its tuple of bits.
 -- Assumes nothing.
 use mathlib.Core.Path.{_≡_, refl, sym, ap, ap₂, subst, _∙_}
-use mathlib.Core.Bool.{Bool, true, false, not, _&&_, xor, cond}
+use mathlib.Core.Bool.{Bool, true, false, _&&_, xor, cond}
 use mathlib.Core.List.{List, [], _∷_}
-use Prim.Native.Nat.{ℕ, zero, suc, _+_, _*_, _/_, _%_, _^_, _≤_, _<_}
+use Prim.Native.Nat.{ℕ, zero, suc, _+_, _*_, _/_, _%_, _^_, _<_}
 use native.Mathlib.Nat.{suc-inj, suc-ne-zero, mod-lt, mod-one, mod-eq-of-lt, pow-suc}
 use native.Mathlib.Numerals.{add-one}
 use native.Mathlib.Omega.{arith}
@@ -11,7 +11,7 @@ use lib.Bits.{bitXor, xor-shr, xor-mod, xor-lt}
 use lib.Dec.{eqb, lit<}
 use lib.Pow.{mod-pow-add}
 use lib.ListN.{length}
-use Rattle.algebra.specs.Operations.{Ops, Ring2}
+use Rattle.algebra.specs.Operations.{Ring2}
 use Rattle.algebra.specs.Tuples.{plus, scale, zeros, unit, up, last}
 use Rattle.algebra.specs.Bits.{two, bits, number}
 

@@ -1,9 +1,9 @@
 -- The codes of a sound field as a carrier of their own: a ring, and more.
 -- Assumes nothing.
-use mathlib.Core.Path.{_≡_, refl, sym, ap, ap₂, subst, _∙_}
+use mathlib.Core.Path.{_≡_, refl, sym, ap, _∙_}
 use mathlib.Core.HLevel.{Σ-prop-path}
 use mathlib.Core.Logic.{_⊎_, inl, inr, ⊎-elim}
-use Prim.Native.Nat.{ℕ, zero, suc, _^_, _<_}
+use Prim.Native.Nat.{ℕ, zero, suc, _^_}
 use native.Mathlib.Bridge.{le-prop}
 use lib.Bits.{bitXor, xor-lt, xor-comm, xor-assoc, xor-self, xor-zero-r}
 use lib.Pow.{pow-pos}

@@ -1,9 +1,9 @@
 -- The exponent that undoes 1 + q^t exists, is the only one, and is given by the closed formula.
 -- Assumes nothing.
 use mathlib.Core.Path.{_≡_, refl, sym, ap, ap₂, subst, _∙_}
-use mathlib.Core.Bool.{Bool, true}
+use mathlib.Core.Bool.{Bool}
 use Prim.Native.Nat.{ℕ, zero, suc, _+_, _-_, _*_, _/_, _%_, _^_, _≤_, _<_}
-use native.Mathlib.Nat.{mul-zero, mul-suc, two-mul, pow-suc, pow-zero, add-mul-mod-self-left, mod-lt, mod-eq-of-lt, mod-add-div, mul-comm, mul-assoc, one-mul, le-trans}
+use native.Mathlib.Nat.{mul-zero, mul-suc, two-mul, pow-suc, pow-zero, add-mul-mod-self-left, mod-lt, mod-eq-of-lt, mod-add-div}
 use native.Mathlib.Omega.{arith}
 use lib.Dec.{eqb}
 use lib.Pow.{pow-pos, pow-mono, pow-add}

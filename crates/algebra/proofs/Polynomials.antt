@@ -1,15 +1,15 @@
 -- The product modulo a monic polynomial is the remainder of the plain product, and no other tuple of its length is.
 -- Assumes nothing.
 use mathlib.Core.Path.{_≡_, refl, sym, ap, ap₂, subst, _∙_}
-use mathlib.Core.List.{List, [], _∷_, _++_}
-use Prim.Native.Nat.{ℕ, zero, suc, _≤_, _<_, suc-le-suc, zero-le}
-use native.Mathlib.Nat.{suc-inj, suc-ne-zero, le-refl, le-of-eq, le-trans, le-suc, le-of-suc-le-suc, not-suc-le-zero}
+use mathlib.Core.List.{List, [], _∷_}
+use Prim.Native.Nat.{ℕ, zero, suc, _≤_}
+use native.Mathlib.Nat.{suc-inj, suc-ne-zero, le-refl, le-trans, le-suc, le-of-suc-le-suc, not-suc-le-zero}
 use lib.ListN.{length, getD, List·getD-eq-default}
 use Rattle.algebra.specs.Operations.{Ops, Ring2}
 use Rattle.algebra.specs.Tuples.{plus, scale, zeros, up, last, timesX, times}
 use Rattle.algebra.specs.Polynomials.{coefficient, Same, poly-sum, poly-product, monic, Congruent}
 use Rattle.algebra.specs.Quotient.{Only-remainder}
-use Rattle.algebra.proofs.Rings.{nil-add, add-left-comm, add-twice, add-exchange, equal-if-nil, mul-nil, nil-mul, add-mul}
+use Rattle.algebra.proofs.Rings.{nil-add, add-twice, add-exchange, equal-if-nil, mul-nil, nil-mul, add-mul}
 use Rattle.algebra.proofs.Tuples.{length-scale, length-timesX, length-times}
 
 -- tuples of one length with the same coefficients are one

@@ -4,16 +4,16 @@ use mathlib.Core.Path.{_≡_, refl, sym, ap, ap₂, subst, _∙_}
 use mathlib.Core.Bool.{Bool, true, false, not, _&&_, cond}
 use mathlib.Core.Logic.{_⊎_, inl, inr, ⊎-elim}
 use Prim.Native.Nat.{ℕ, zero, suc, _+_, _-_, _*_, _/_, _%_, _^_, _≤_, _<_}
-use native.Mathlib.Nat.{eq-or-lt-of-le, zero-add, mod-lt, mod-eq-of-lt, div-add-mod', mul-comm, le-trans}
+use native.Mathlib.Nat.{eq-or-lt-of-le, zero-add, mod-lt, mod-eq-of-lt, div-add-mod', mul-comm}
 use native.Mathlib.Omega.{arith}
-use lib.Bits.{bitXor, xor-lt, xor-assoc, xor-self, xor-zero-r}
-use lib.Dec.{eqb, ltb, lit<}
+use lib.Bits.{bitXor, xor-lt, xor-assoc, xor-self}
+use lib.Dec.{eqb, ltb}
 use lib.ListN.{length}
 use lib.Pow.{pow-pos, pow-mono}
-use Rattle.std.proofs.shelf.Tests.{and-parts, and-from, and-left, and-right, eqb-true, eqb-false, eq-eqb, ltb-true, not-true, not-false, not-from-true, not-from-false, cond-true, cond-false, cond-both, cases-eq, false≢true}
-use Rattle.algebra.specs.Operations.{Ops, Ring2, power}
-use Rattle.algebra.specs.Meaning.{Meaning, Shape, Laws, Is-code, operations, low-bits, dead}
-use Rattle.algebra.specs.Search.{some-below, first-from}
+use Rattle.std.proofs.shelf.Tests.{and-parts, and-from, and-left, and-right, eqb-true, ltb-true, not-true, not-false, cond-true, cond-false, cond-both, cases-eq, false≢true}
+use Rattle.algebra.specs.Operations.{power}
+use Rattle.algebra.specs.Meaning.{Meaning, Shape, Laws, operations, low-bits, dead}
+use Rattle.algebra.specs.Search.{some-below}
 use Rattle.algebra.specs.Bits.{two}
 use Rattle.algebra.specs.Shift.{degree, in-range, splits, shift-product, shift-by, shift}
 use Rattle.algebra.specs.PowerTable.{places, entry, logarithm, stands, table-product, full, table-by, power-table}

@@ -4,7 +4,7 @@ use mathlib.Core.Path.{_≡_, refl, sym, ap, ap₂, _∙_}
 use mathlib.Core.List.{List, [], _∷_}
 use mathlib.Core.Logic.{_⊎_, inl, inr}
 use Prim.Native.Nat.{ℕ, zero, suc, _+_, _*_, _^_}
-use native.Mathlib.Nat.{zero-add, suc-add, mul-zero, mul-suc, zero-mul, suc-mul, pow-suc, add-comm}
+use native.Mathlib.Nat.{zero-add, suc-add, mul-zero, mul-suc, pow-suc, add-comm}
 use lib.ListN.{length}
 use Rattle.algebra.specs.Operations.{Ops, Ring2, power}
 use Rattle.algebra.specs.Tuples.{plus, scale, zeros, unit, timesX, times}

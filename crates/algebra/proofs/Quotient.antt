@@ -1,13 +1,13 @@
 -- The product modulo a monic polynomial makes the tuples of one length a ring again.
 -- Assumes nothing.
-use mathlib.Core.Path.{_≡_, refl, sym, ap, ap₂, _∙_}
+use mathlib.Core.Path.{_≡_, sym, ap, _∙_}
 use mathlib.Core.HLevel.{Σ-prop-path}
-use mathlib.Core.List.{List, [], _∷_}
-use Prim.Native.Nat.{ℕ, zero, suc}
+use mathlib.Core.List.{List}
+use Prim.Native.Nat.{ℕ}
 use native.Mathlib.Nat.{ℕ-set}
 use lib.ListN.{length}
 use Rattle.algebra.specs.Operations.{Ops, Ring2}
-use Rattle.algebra.specs.Tuples.{plus, scale, zeros, unit, timesX, times}
+use Rattle.algebra.specs.Tuples.{plus, zeros, unit, times}
 use Rattle.algebra.specs.Quotient.{Quotient}
 use Rattle.algebra.proofs.Tuples.{length-zeros, length-unit, length-plus, length-times, plus-comm, plus-assoc, plus-zeros, plus-self, times-plus, times-times, times-unit}
 

@@ -1,7 +1,6 @@
 -- What every commutative ring with a + a = 0 has besides its laws.
 -- Assumes nothing.
-use mathlib.Core.Path.{_≡_, refl, sym, ap, ap₂, _∙_}
-use Prim.Native.Nat.{ℕ}
+use mathlib.Core.Path.{_≡_, sym, ap, ap₂, _∙_}
 use Rattle.algebra.specs.Operations.{Ops, Ring2}
 
 module _ {A : Type 0} {O : Ops A} (R : Ring2 O) where

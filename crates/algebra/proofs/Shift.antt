@@ -1,19 +1,19 @@
 -- Which shift fields are sound: trial division decides, and where it finds no factor the laws of a field hold.
 -- Assumes nothing.
-use mathlib.Core.Path.{_≡_, refl, sym, ap, ap₂, subst, _∙_}
+use mathlib.Core.Path.{_≡_, refl, sym, ap, _∙_}
 use mathlib.Core.Bool.{Bool, true, false, not, _||_}
 use mathlib.Core.Logic.{_⊎_, inl, inr, ⊎-elim}
 use Prim.Native.Nat.{ℕ, zero, suc, _+_, _*_, _^_, _≤_, _<_}
 use native.Mathlib.Nat.{one-mul, pow-suc, le-trans}
 use native.Mathlib.Omega.{arith}
-use lib.Bits.{bitXor, xor-zero-r}
+use lib.Bits.{xor-zero-r}
 use lib.Dec.{eqb, ltb, lit<, lit≤}
 use lib.ListN.{length}
 use lib.Pow.{pow-pos, pow-mono}
 use Rattle.std.proofs.shelf.Tests.{and-parts, or-cases, ltb-true, eqb-true, eq-eqb, not-true, cases-bool, cases-eq, both-ways, false≢true}
 use Rattle.algebra.specs.Operations.{power}
 use Rattle.algebra.specs.Tuples.{unit, times}
-use Rattle.algebra.specs.Meaning.{Shape, Laws, Is-code, dead}
+use Rattle.algebra.specs.Meaning.{Shape, Laws, dead}
 use Rattle.algebra.specs.Search.{some-below}
 use Rattle.algebra.specs.Bits.{two, number}
 use Rattle.algebra.specs.Shift.{binary-product, degree, splits, shift-product, in-range, shift-by, shift, Multiple}

@@ -3,16 +3,15 @@
 use mathlib.Core.Path.{_≡_, refl, sym, ap, ap₂, subst, _∙_}
 use mathlib.Core.Bool.{Bool, true}
 use mathlib.Core.List.{List}
-use Prim.Native.Nat.{ℕ, suc, _+_, _-_, _*_, _%_, _^_, _≤_, _<_}
+use Prim.Native.Nat.{ℕ, _+_, _-_, _*_, _%_, _^_, _≤_, _<_}
 use native.Mathlib.Nat.{pow-suc}
 use native.Mathlib.Omega.{arith}
 use lib.Bits.{bitXor}
 use lib.ListN.{length}
 use lib.Pow.{low, pow-mono}
-use Rattle.algebra.specs.Operations.{Ops, Ring2}
+use Rattle.algebra.specs.Operations.{Ring2}
 use Rattle.algebra.specs.Tuples.{zeros, unit, times}
 use Rattle.algebra.specs.Polynomials.{poly-sum, poly-product, monic, Congruent, Same}
-use Rattle.algebra.specs.Meaning.{Meaning}
 use Rattle.algebra.specs.Bits.{two, bits, number}
 use Rattle.algebra.specs.Shift.{binary-product, degree, shift-product, shift-by, shift, Multiple, Shift-remainder}
 use Rattle.algebra.proofs.Tuples.{length-times}

@@ -1,14 +1,14 @@
 -- Each polynomial of the table has its width and does not split: one test over the whole table, which antt computes.
 -- Assumes nothing.
-use mathlib.Core.Path.{_≡_, refl, sym, ap, subst, _∙_}
-use mathlib.Core.Bool.{Bool, true, false, not, _&&_}
-use Prim.Native.Nat.{ℕ, _+_, _-_, _≤_, _<_}
+use mathlib.Core.Path.{_≡_, refl, ap, _∙_}
+use mathlib.Core.Bool.{Bool, true, not, _&&_}
+use Prim.Native.Nat.{ℕ, _+_, _-_, _≤_}
 use native.Mathlib.Omega.{arith}
 use lib.Dec.{eqb, leb}
 use lib.ListN.{getD}
 use Rattle.std.proofs.shelf.Tests.{and-parts, eqb-true, leb-true}
 use Rattle.algebra.specs.Search.{some-below}
-use Rattle.algebra.specs.Shift.{highest-bit, degree, splits, shift-by, shift}
+use Rattle.algebra.specs.Shift.{highest-bit, degree, shift-by, shift}
 use Rattle.algebra.specs.Standard.{polynomials, polynomial-of}
 use Rattle.algebra.proofs.Binary.{step, horner}
 use Rattle.algebra.proofs.Search.{all-below, all-below-at}

@@ -1,12 +1,12 @@
 -- The two steps undo each other.
 -- Assumes nothing.
-use mathlib.Core.Path.{_≡_, refl, sym, ap, ap₂, subst, _∙_}
-use Prim.Native.Nat.{ℕ, zero, suc, _+_, _-_, _*_, _/_, _%_, _^_, _≤_, _<_}
-use native.Mathlib.Nat.{add-zero, mul-zero, mul-suc, mul-comm, mod-add-div}
+use mathlib.Core.Path.{_≡_, sym, ap, _∙_}
+use Prim.Native.Nat.{ℕ, zero, suc, _+_, _-_, _*_, _/_, _^_, _≤_}
+use native.Mathlib.Nat.{mul-zero, mul-suc, mul-comm, mod-add-div}
 use native.Mathlib.Omega.{arith}
 use Rattle.algebra.specs.Operations.{Ops, Ring2, power}
 use Rattle.algebra.specs.Exponent.{units, Undoes, inverse-exponent, closed-formula, Inverse}
-use Rattle.algebra.specs.Steps.{Undone, Steps-undo}
+use Rattle.algebra.specs.Steps.{Steps-undo}
 use Rattle.algebra.proofs.Powers.{power-one, power-add, power-mul}
 use Rattle.algebra.proofs.Exponent.{inverse-is, unit-count, quotient-of}
 

@@ -1,26 +1,25 @@
 -- The tower on a sound field by an element with no root keeps the laws; on any field its answers are of the right shape.
 -- Assumes nothing.
 use mathlib.Core.Path.{_≡_, refl, sym, ap, ap₂, subst, _∙_}
-use mathlib.Core.Bool.{Bool, true, false, not, _&&_}
+use mathlib.Core.Bool.{Bool, true, false, not}
 use mathlib.Core.List.{List, [], _∷_}
 use mathlib.Core.Logic.{_⊎_, inl, inr, ⊎-elim}
-use Prim.Native.Nat.{ℕ, zero, suc, _+_, _*_, _/_, _%_, _^_, _≤_, _<_}
+use Prim.Native.Nat.{ℕ, zero, _+_, _*_, _/_, _%_, _^_, _≤_, _<_}
 use native.Mathlib.Nat.{mod-lt, mod-eq-of-lt, mul-comm, add-comm, two-mul, suc-inj, suc-ne-zero, le-trans}
 use native.Mathlib.Omega.{arith}
-use lib.Bits.{bitXor, xor-lt, xor-block, xor-shr, xor-mod, xor-assoc, xor-self, xor-zero-r, xor-comm}
+use lib.Bits.{bitXor, xor-lt, xor-shr, xor-mod}
 use lib.Arith.{digits-lt}
-use lib.Dec.{eqb, leb, lit≤}
+use lib.Dec.{eqb, leb}
 use lib.ListN.{length, getD}
 use lib.Pow.{pow-pos, pow-add, pow-mono, shr-lt, high, low, split}
 use Rattle.std.proofs.shelf.Tests.{and-parts, leb-true, eq-eqb, not-true, both-ways, false≢true}
 use Rattle.algebra.specs.Operations.{Ops, Ring2, power}
 use Rattle.algebra.specs.Tuples.{plus, scale, zeros, unit, up, last, timesX, times}
-use Rattle.algebra.specs.Meaning.{Meaning, Shape, Laws, Is-code, low-bits, dead}
-use Rattle.algebra.specs.Search.{some-below}
+use Rattle.algebra.specs.Meaning.{Meaning, Shape, Laws, low-bits, dead}
 use Rattle.algebra.specs.Tower.{pair, tower-product, has-root, tower-by, tower}
 use Rattle.algebra.proofs.Rings.{nil-add, add-twice, add-exchange, equal-if-nil, mul-nil, nil-mul, one-mul, square-sum}
 use Rattle.algebra.proofs.Quotient.{Tuple, same-tuple, quotient, quotient-ring}
-use Rattle.algebra.proofs.Powers.{power-one, power-add, power-mul, power-product, power-two-add, power-of-one, constant, constant-power, variable, fixes-all}
+use Rattle.algebra.proofs.Powers.{power-mul, power-product, power-two-add, power-of-one, constant, constant-power, variable, fixes-all}
 use Rattle.algebra.proofs.Search.{some-below-at}
 use Rattle.algebra.proofs.Carried.{Carried, carried-laws}
 use Rattle.algebra.proofs.Shift.{dead-shape}

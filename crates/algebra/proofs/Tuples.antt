@@ -7,7 +7,7 @@ use native.Mathlib.Nat.{suc-inj, suc-ne-zero, zero-add, add-zero, add-suc, suc-a
 use lib.ListN.{length, length-append}
 use Rattle.algebra.specs.Operations.{Ops, Ring2}
 use Rattle.algebra.specs.Tuples.{plus, scale, zeros, unit, up, last, timesX, times}
-use Rattle.algebra.proofs.Rings.{nil-add, add-exchange, mul-nil, nil-mul, one-mul, add-mul, mul-left-comm}
+use Rattle.algebra.proofs.Rings.{mul-nil, nil-mul, one-mul, add-mul}
 
 -- ---- lengths, for any operations
 module _ {A : Type 0} (O : Ops A) where

@@ -1,7 +1,7 @@
 -- What a finite field of up to 256 elements means: its width, its one, its product on codes, and whether it is sound.
 -- A code is a number below 2^width; the sum of two codes is their bitwise exclusive or.
 use mathlib.Core.Path.{_≡_}
-use mathlib.Core.Bool.{Bool, true, false}
+use mathlib.Core.Bool.{Bool, false}
 use Prim.Native.Nat.{ℕ, _%_, _^_, _≤_, _<_}
 use lib.Bits.{bitXor}
 use Rattle.algebra.specs.Operations.{Ops, power}

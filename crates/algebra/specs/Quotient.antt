@@ -2,7 +2,7 @@
 use mathlib.Core.Path.{_≡_}
 use mathlib.Core.List.{List}
 use lib.ListN.{length}
-use Rattle.algebra.specs.Operations.{Ops, Ring2}
+use Rattle.algebra.specs.Operations.{Ops}
 use Rattle.algebra.specs.Tuples.{plus, unit, times}
 use Rattle.algebra.specs.Polynomials.{poly-product, monic, Congruent}
 

@@ -1,5 +1,5 @@
 -- Searches through numbers.
-use mathlib.Core.Bool.{Bool, true, false, _||_, cond}
+use mathlib.Core.Bool.{Bool, false, _||_, cond}
 use Prim.Native.Nat.{ℕ, zero, suc}
 
 -- some number below n passes the test

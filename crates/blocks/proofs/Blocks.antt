@@ -1,8 +1,8 @@
 -- The product of blocks, coefficient by coefficient.
 -- Assumes nothing.
 use mathlib.Core.Path.{_≡_, refl, sym, ap, subst, _∙_}
-use mathlib.Core.List.{List, [], _∷_}
-use Prim.Native.Nat.{ℕ, zero, suc, _+_, _-_, _^_, _≤_, _<_}
+use mathlib.Core.List.{List, _∷_}
+use Prim.Native.Nat.{ℕ, zero, suc, _+_, _-_, _≤_, _<_}
 use native.Mathlib.Omega.{arith}
 use lib.Bits.{xor-lt}
 use lib.ListN.{length, getD, drop, replicate, length-drop}
@@ -10,7 +10,7 @@ use lib.Pow.{pow-pos}
 use lib.Seq.{drop-length, drop-cons, getD-drop}
 use Rattle.algebra.specs.Meaning.{Meaning, Shape, Is-code, operations}
 use Rattle.algebra.specs.Tuples.{plus, scale, timesX, times, zeros}
-use Rattle.algebra.proofs.Closed.{Keeps, times-keeps, timesX-keeps}
+use Rattle.algebra.proofs.Closed.{Keeps, times-keeps}
 use Rattle.blocks.specs.Codes.{Codes}
 
 -- sums and products of codes are codes

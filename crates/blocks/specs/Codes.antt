@@ -1,6 +1,6 @@
 -- Blocks of codes.
 use mathlib.Core.List.{List}
-use Prim.Native.Nat.{ℕ, _^_, _<_}
+use Prim.Native.Nat.{ℕ, _<_}
 use lib.ListN.{length, getD}
 use Rattle.algebra.specs.Meaning.{Meaning, Is-code}
 

@@ -2,16 +2,14 @@
 -- Assumes nothing.
 use mathlib.Core.Path.{_≡_, refl, sym, ap, ap₂, subst, _∙_}
 use mathlib.Core.Bool.{Bool, true, false, xor, cond}
-use Prim.Native.Nat.{ℕ, zero, suc, _+_, _-_, _*_, _/_, _%_, _^_, _≤_, _<_}
-use native.Mathlib.Nat.{le-trans}
+use Prim.Native.Nat.{ℕ, _-_, _%_, _^_, _≤_, _<_}
 use native.Mathlib.Omega.{arith}
 use lib.Bits.{bitAnd, and-mask, mask-lt, and-zero-r}
-use lib.Dec.{lit≤}
 use lib.ListN.{length}
-use lib.Pow.{pow-mono, pow-pos}
+use lib.Pow.{pow-pos}
 use Rattle.algebra.specs.Tuples.{plus, scale, zeros, up, last, timesX, times}
 use Rattle.algebra.specs.Bits.{two, bits, number}
-use Rattle.algebra.specs.Meaning.{Meaning, as-code, dead}
+use Rattle.algebra.specs.Meaning.{as-code, dead}
 use Rattle.algebra.specs.Shift.{in-range, highest-bit, degree, shift-product, shift-by, shift}
 use Rattle.algebra.proofs.Tuples.{length-times}
 use Rattle.algebra.proofs.Bits.{length-bits, number-lt}

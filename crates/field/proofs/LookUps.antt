@@ -1,21 +1,21 @@
 -- What a power table keeps, against its meaning.
 -- Assumes nothing.
-use mathlib.Core.Path.{_≡_, refl, sym, ap, ap₂, subst, _∙_}
+use mathlib.Core.Path.{_≡_, refl, sym, ap, ap₂, _∙_}
 use mathlib.Core.Bool.{Bool, true, false, not, _&&_, cond}
 use mathlib.Core.List.{List}
-use mathlib.Core.Logic.{_⊎_, inl, inr, ⊎-elim}
+use mathlib.Core.Logic.{_⊎_, ⊎-elim}
 use Prim.Native.Nat.{ℕ, _+_, _-_, _%_, _^_, _≤_, _<_}
 use native.Mathlib.Nat.{mod-lt, mod-eq-of-lt, add-mod-right}
 use native.Mathlib.Numerals.{add-one}
 use native.Mathlib.Omega.{arith}
-use lib.Bits.{bitAnd, and-mask, and-le-r}
+use lib.Bits.{bitAnd, and-mask}
 use lib.Dec.{eqb, ltb}
 use lib.ListN.{getD}
 use lib.Pow.{pow-mono, pow-pos}
 use Rattle.std.proofs.shelf.Tests.{and-parts, and-left, and-right, and-from, cond-true, cond-false, eq-eqb, ne-eqb, cases-bool}
 use Rattle.algebra.specs.Operations.{power}
 use Rattle.algebra.specs.Search.{some-below, first-from}
-use Rattle.algebra.specs.Meaning.{Meaning, as-code, low-bits, operations, dead}
+use Rattle.algebra.specs.Meaning.{as-code, low-bits, operations, dead}
 use Rattle.algebra.specs.Shift.{in-range, degree, shift-by, shift}
 use Rattle.algebra.specs.PowerTable.{places, entry, logarithm, stands, table-product, full, table-by, power-table}
 use Rattle.algebra.proofs.Degree.{degree-is, degree-positive, range, shift-live}

@@ -1,7 +1,7 @@
 //! A polynomial for each width.
 ghost use mathlib.Core.Path.{_≡_};
 ghost use mathlib.Core.Bool.{true};
-ghost use Prim.Native.Nat.{_<_, _≤_};
+ghost use Prim.Native.Nat.{_<_};
 ghost use Rattle.std.specs.Slices.{found};
 ghost use Rattle.algebra.specs.Shift.{shift};
 ghost use Rattle.field.specs.Standard.{standard};

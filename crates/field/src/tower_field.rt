@@ -1,5 +1,5 @@
 ghost use mathlib.Core.Path.{_≡_};
-ghost use Prim.Native.Nat.{_*_, _/_, _%_, _^_, _≤_, _<_};
+ghost use Prim.Native.Nat.{_*_, _/_, _^_, _≤_, _<_};
 ghost use Rattle.algebra.specs.Meaning.{low-bits, Is-code};
 ghost use Rattle.algebra.specs.Tower.{tower-product, has-root, tower};
 use crate::interface::Field;

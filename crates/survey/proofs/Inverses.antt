@@ -7,7 +7,7 @@ use native.Mathlib.Nat.{le-refl, le-trans, le-suc, zero-lt-suc}
 use native.Mathlib.Omega.{arith}
 use lib.Dec.{eqb}
 use Rattle.std.proofs.shelf.Tests.{eq-eqb, ne-eqb}
-use Rattle.algebra.specs.Meaning.{Meaning, Shape, Laws, Is-code}
+use Rattle.algebra.specs.Meaning.{Meaning, Shape, Laws}
 use Rattle.algebra.proofs.Codes.{zero-times}
 use Rattle.algebra.proofs.Search.{some-below-at, some-below-none}
 use Rattle.survey.specs.Codes.{count-below, has-inverse, invertible}

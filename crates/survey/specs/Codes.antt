@@ -1,5 +1,5 @@
 -- What the survey finds out by going through all codes of a field.
-use mathlib.Core.Bool.{Bool, true, false, cond}
+use mathlib.Core.Bool.{Bool, cond}
 use Prim.Native.Nat.{ℕ, zero, suc, _+_, _^_, max}
 use lib.Dec.{eqb, leb}
 use Rattle.algebra.specs.Operations.{power}

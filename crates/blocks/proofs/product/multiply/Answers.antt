@@ -1,12 +1,10 @@
-use mathlib.Core.Path.{_≡_, refl, sym, ap, subst, _∙_}
-use mathlib.Core.List.{List, [], _∷_}
-use Prim.Native.Nat.{ℕ, zero, suc, _+_, _-_, _<_}
+use mathlib.Core.Path.{_≡_, sym, ap, subst, _∙_}
+use Prim.Native.Nat.{_-_, _<_}
 use native.Mathlib.Omega.{arith}
-use lib.ListN.{length, getD, drop, replicate, length-drop}
-use lib.Seq.{drop-length, drop-cons}
+use lib.ListN.{length, getD, drop}
 use Rattle.algebra.specs.Meaning.{operations}
-use Rattle.algebra.specs.Tuples.{plus, scale, timesX, times, zeros}
-use Rattle.algebra.proofs.Tuples.{length-times, length-timesX}
+use Rattle.algebra.specs.Tuples.{plus, scale, timesX, times}
+use Rattle.algebra.proofs.Tuples.{length-timesX}
 use Rattle.blocks.proofs.Blocks.{times-codes, blank, next-coefficient}
 use Rattle.blocks.specs.Codes.{Codes}
 use Rattle.blocks.proofs.product.multiply.Needs as need

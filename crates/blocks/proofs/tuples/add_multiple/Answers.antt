@@ -1,5 +1,5 @@
 use mathlib.Core.Path.{_≡_, refl, sym, ap, subst, _∙_}
-use Prim.Native.Nat.{ℕ, _≤_, _<_}
+use Prim.Native.Nat.{_≤_, _<_}
 use native.Mathlib.Omega.{arith}
 use lib.Bits.{bitXor, xor-comm}
 use lib.ListN.{length, getD}
@@ -8,7 +8,7 @@ use Rattle.algebra.specs.Tuples.{plus, scale}
 use Rattle.algebra.proofs.Codes.{product-of-codes}
 use Rattle.algebra.proofs.Entries.{plus-at, scale-at}
 use Rattle.algebra.proofs.Tuples.{length-plus, length-scale}
-use Rattle.blocks.proofs.Writing.{Below, higher, below-all}
+use Rattle.blocks.proofs.Writing.{higher, below-all}
 use Rattle.blocks.proofs.tuples.add_multiple.Needs as need
 
 pub loop-i-holds : need.loop-i-holds

@@ -1,5 +1,5 @@
 use mathlib.Core.Path.{_≡_, sym, ap, ap₂, subst, _∙_}
-use Prim.Native.Nat.{suc, _+_, _-_, _*_, _/_, _%_, _^_, _≤_, _<_}
+use Prim.Native.Nat.{suc, _-_, _*_, _/_, _^_, _<_}
 use native.Mathlib.Numerals.{add-one}
 use native.Mathlib.Nat.{sub-self, sub-zero, div-one}
 use native.Mathlib.Omega.{arith}

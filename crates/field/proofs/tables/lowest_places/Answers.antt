@@ -1,7 +1,7 @@
-use mathlib.Core.Path.{_≡_, refl, sym, ap, subst, _∙_}
-use Prim.Native.Nat.{ℕ, _+_, _-_, _<_}
+use mathlib.Core.Path.{_≡_, refl, sym, ap, _∙_}
+use Prim.Native.Nat.{_+_, _-_}
 use native.Mathlib.Omega.{arith}
-use lib.ListN.{length, getD, length-set, getD-replicate}
+use lib.ListN.{length-set, getD-replicate}
 use lib.Seq.{getD-set-same, getD-set-other}
 use Rattle.field.proofs.Places.{lowest-from, lowest-end, lowest-all, written}
 use Rattle.field.proofs.tables.lowest_places.Needs as need

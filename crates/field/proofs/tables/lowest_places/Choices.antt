@@ -1,7 +1,5 @@
 use mathlib.Core.Path.{_≡_}
-use mathlib.Core.Bool.{cond}
 use Prim.Native.Nat.{ℕ, _-_, _<_}
-use lib.Dec.{eqb, ltb}
 use lib.ListN.{length, getD}
 use Rattle.field.proofs.Places.{lowest-from}
 use Rattle.field.proofs.tables.lowest_places.Given as given

@@ -1,8 +1,7 @@
 use mathlib.Core.Path.{_≡_}
-use Prim.Native.Nat.{ℕ, _^_, _<_}
+use Prim.Native.Nat.{ℕ, _<_}
 use lib.ListN.{length, getD}
 use Rattle.algebra.specs.PowerTable.{entry}
-use Rattle.algebra.specs.Shift.{degree}
 use Rattle.field.proofs.tables.powers_of.Given as given
 
 -- the places below k are filled, and x is what comes next

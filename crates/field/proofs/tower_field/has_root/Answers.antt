@@ -1,4 +1,4 @@
-use mathlib.Core.Path.{_≡_, sym, ap, ap₂, subst, _∙_}
+use mathlib.Core.Path.{_≡_, sym, ap, subst, _∙_}
 use mathlib.Core.Bool.{false}
 use Prim.Native.Nat.{ℕ, _*_, _%_, _^_, _≤_, _<_}
 use native.Mathlib.Nat.{one-mul, mod-eq-of-lt}
@@ -8,7 +8,7 @@ use lib.Bits.{bitXor}
 use lib.Dec.{eqb}
 use lib.Pow.{pow-mono}
 use Rattle.std.proofs.shelf.Tests.{eq-eqb, ne-eqb}
-use Rattle.algebra.specs.Meaning.{Meaning, Is-code}
+use Rattle.algebra.specs.Meaning.{Meaning}
 use Rattle.algebra.specs.Tower.{has-root}
 use Rattle.algebra.proofs.Codes.{product-of-codes}
 use Rattle.algebra.proofs.Search.{some-below-at, some-below-none}

@@ -1,10 +1,8 @@
-use mathlib.Core.Path.{_≡_, sym, ap, ap₂, subst, _∙_}
-use Prim.Native.Nat.{ℕ, zero, suc, _-_, _≤_}
+use mathlib.Core.Path.{_≡_, sym, ap₂, subst}
+use Prim.Native.Nat.{suc, _-_}
 use native.Mathlib.Omega.{arith}
-use Rattle.algebra.specs.Meaning.{Meaning}
 use Rattle.algebra.specs.Shift.{shift}
 use Rattle.algebra.specs.PowerTable.{power-table}
-use Rattle.algebra.specs.Tower.{tower}
 use Rattle.named.specs.declared.layer.Misnamed.the-variants.{TooManyTowers}
 use Rattle.named.specs.Layers.{Says}
 use Rattle.named.specs.Makes.{storey}

@@ -1,4 +1,4 @@
-use mathlib.Core.Path.{_≡_, refl, sym, ap, subst, _∙_}
+use mathlib.Core.Path.{_≡_, refl, ap, subst, _∙_}
 use Prim.Native.Nat.{_<_, max}
 use native.Mathlib.Omega.{arith}
 use Rattle.algebra.proofs.Codes.{code-byte}

@@ -1,10 +1,10 @@
-use mathlib.Core.Path.{_≡_, refl, sym, ap, subst, _∙_}
+use mathlib.Core.Path.{_≡_, sym, ap, subst, _∙_}
 use mathlib.Core.Bool.{true, not, cond}
 use Prim.Native.Nat.{ℕ, _-_, _*_, _%_, _^_, _<_, _≤_}
 use native.Mathlib.Nat.{one-mul, mod-eq-of-lt}
 use native.Mathlib.Omega.{arith}
 use lib.Pow.{pow-mono}
-use Rattle.algebra.specs.Shift.{in-range, degree, splits, shift-by, shift}
+use Rattle.algebra.specs.Shift.{in-range, degree, shift-by, shift}
 use Rattle.algebra.proofs.Degree.{degree-is, degree-only, inside}
 use Rattle.field.proofs.shift_value.Shift.live.Needs as need
 

@@ -4,7 +4,7 @@ use native.Mathlib.Nat.{mod-lt}
 use native.Mathlib.Omega.{arith}
 use lib.Bits.{bitAnd}
 use lib.Pow.{pow-pos}
-use Rattle.algebra.specs.Meaning.{Meaning, as-code, low-bits, dead}
+use Rattle.algebra.specs.Meaning.{as-code, low-bits, dead}
 use Rattle.algebra.specs.Tower.{tower-product, tower-by, tower}
 use Rattle.field.proofs.Pairs.{low-is, tower-narrow, tower-wide}
 use Rattle.field.proofs.tower_field.TowerField.product.Needs as need

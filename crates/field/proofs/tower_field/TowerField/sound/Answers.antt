@@ -1,5 +1,5 @@
-use mathlib.Core.Path.{_≡_, sym, ap, ap₂, subst, _∙_}
-use mathlib.Core.Bool.{Bool, true, false, not, _&&_}
+use mathlib.Core.Path.{_≡_, sym, ap, subst, _∙_}
+use mathlib.Core.Bool.{not, _&&_}
 use Prim.Native.Nat.{ℕ, _≤_, _<_}
 use Rattle.std.proofs.shelf.Tests.{and-left}
 use Rattle.algebra.specs.Meaning.{Meaning, low-bits, dead}
