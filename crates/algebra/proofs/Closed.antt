@@ -1,4 +1,4 @@
--- What the elements of tuples keep: a property of zero that sums and products have again.
+-- What the elements of tuples keep: a property of zero and one that sums and products have again.
 -- Assumes nothing.
 use mathlib.Core.List.{List, [], _∷_}
 use Prim.Native.Nat.{ℕ, zero, suc, _<_, suc-le-suc}
@@ -6,7 +6,7 @@ use native.Mathlib.Nat.{not-suc-le-zero, le-of-suc-le-suc}
 use native.Mathlib.Omega.{arith}
 use lib.ListN.{length, getD}
 use Rattle.algebra.specs.Operations.{Ops}
-use Rattle.algebra.specs.Tuples.{plus, scale, zeros, up, last, timesX, times}
+use Rattle.algebra.specs.Tuples.{plus, scale, zeros, unit, up, last, timesX, times}
 
 -- every element has P; beyond the end stands d
 abbrev pub Every : {A : Type 0} → (A → Type 0) → A → List A → Type 0
@@ -15,6 +15,7 @@ Every P d a = (i : ℕ) → i < length a → P (getD a i d)
 -- operations that lead from elements with P to elements with P
 pub record Keeps {A : Type 0} (O : Ops A) (P : A → Type 0) : Type 0 where
   pub nil : P (O .nil)
+  pub one : P (O .one)
   pub add : (x y : A) → P x → P y → P (O .add x y)
   pub mul : (x y : A) → P x → P y → P (O .mul x y)
 
@@ -43,6 +44,12 @@ module _ {A : Type 0} {O : Ops A} {P : A → Type 0} (K : Keeps O P) (d : A) whe
   zeros-keep zero i h = absurd (not-suc-le-zero h)
   zeros-keep (suc v) zero h = K .nil
   zeros-keep (suc v) (suc i) h = zeros-keep v i (le-of-suc-le-suc h)
+
+  pub unit-keeps : (v : ℕ) → Every P d (unit O v)
+  unfolding unit
+  unit-keeps zero i h = absurd (not-suc-le-zero h)
+  unit-keeps (suc v) zero h = K .one
+  unit-keeps (suc v) (suc i) h = zeros-keep v i (le-of-suc-le-suc h)
 
   up-keeps : (c : A) (a : List A) → P c → Every P d a → Every P d (up O c a)
   unfolding up

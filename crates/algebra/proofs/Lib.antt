@@ -20,4 +20,6 @@ pub mod Exponent
 pub mod Steps
 pub mod PowerTable
 pub mod CodeRing
+pub mod Natural
+pub mod Blocks
 pub mod Tower

@@ -12,3 +12,4 @@ pub mod Tower
 pub mod Alike
 pub mod Exponent
 pub mod Steps
+pub mod Blocks

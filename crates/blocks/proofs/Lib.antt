@@ -1,2 +1,2 @@
 mod Writing
-mod Blocks
+mod Coefficients

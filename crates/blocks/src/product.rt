@@ -4,7 +4,7 @@ ghost use Prim.Native.Nat.{_<_};
 ghost use lib.ListN.{length};
 ghost use Rattle.algebra.specs.Meaning.{operations};
 ghost use Rattle.algebra.specs.Tuples.{times};
-ghost use Rattle.blocks.specs.Codes.{Codes};
+ghost use Rattle.algebra.specs.Blocks.{Codes};
 use crate::tuples::add_multiple;
 use crate::tuples::multiply_by_x;
 use field::Field;

@@ -4,7 +4,7 @@ ghost use Prim.Native.Nat.{_<_};
 ghost use lib.ListN.{length};
 ghost use Rattle.algebra.specs.Meaning.{Is-code, operations};
 ghost use Rattle.algebra.specs.Tuples.{plus, scale, timesX};
-ghost use Rattle.blocks.specs.Codes.{Codes};
+ghost use Rattle.algebra.specs.Blocks.{Codes};
 use field::Field;
 
 /// Adds `factor` times `block` to `sum`, place by place.

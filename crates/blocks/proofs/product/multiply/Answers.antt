@@ -5,8 +5,8 @@ use lib.ListN.{length, getD, drop}
 use Rattle.algebra.specs.Meaning.{operations}
 use Rattle.algebra.specs.Tuples.{plus, scale, timesX, times}
 use Rattle.algebra.proofs.Tuples.{length-timesX}
-use Rattle.blocks.proofs.Blocks.{times-codes, blank, next-coefficient}
-use Rattle.blocks.specs.Codes.{Codes}
+use Rattle.blocks.proofs.Coefficients.{times-codes, blank, next-coefficient}
+use Rattle.algebra.specs.Blocks.{Codes}
 use Rattle.blocks.proofs.product.multiply.Needs as need
 
 pub loop-i-holds : need.loop-i-holds

@@ -4,23 +4,13 @@ use mathlib.Core.Path.{_≡_, refl, sym, ap, subst, _∙_}
 use mathlib.Core.List.{List, _∷_}
 use Prim.Native.Nat.{ℕ, zero, suc, _+_, _-_, _≤_, _<_}
 use native.Mathlib.Omega.{arith}
-use lib.Bits.{xor-lt}
 use lib.ListN.{length, getD, drop, replicate, length-drop}
-use lib.Pow.{pow-pos}
 use lib.Seq.{drop-length, drop-cons, getD-drop}
 use Rattle.algebra.specs.Meaning.{Meaning, Shape, Is-code, operations}
 use Rattle.algebra.specs.Tuples.{plus, scale, timesX, times, zeros}
-use Rattle.algebra.proofs.Closed.{Keeps, times-keeps}
-use Rattle.blocks.specs.Codes.{Codes}
-
--- sums and products of codes are codes
-keeps-codes : (M : Meaning) → Shape M → Keeps (operations M) (Is-code M)
-unfolding operations
-keeps-codes M s = record {
-  nil = pow-pos (M .width);
-  add = λ x y hx hy. xor-lt (M .width) x y hx hy;
-  mul = s .product-code;
-}
+use Rattle.algebra.proofs.Blocks.{keeps-codes}
+use Rattle.algebra.proofs.Closed.{times-keeps}
+use Rattle.algebra.specs.Blocks.{Codes}
 
 drop-codes : (M : Meaning) (i : ℕ) (a : List ℕ) → Codes M a → Codes M (drop i a)
 drop-codes M i a h k less =
