@@ -6,7 +6,7 @@ use Rattle.std.proofs.lemmas.Bool.{eq-eqb, ne_eqb, eqb-true, eqb-false}
 use Rattle.algebra.specs.Operations.{Ops, Ring2, power}
 use Rattle.algebra.specs.Exponent.{sum_of_powers}
 use Rattle.algebra.specs.Shift.{highest_bit}
-use Rattle.algebra.specs.Chains.{Step, double, add-one, for_bit, steps_for, chain, follow, by_chain}
+use Rattle.algebra.specs.Chains.{Step, double, add_one, for_bit, steps_for, chain, follow, by_chain}
 use Rattle.algebra.proofs.Degree.{Highest, highest, highest_only}
 use Rattle.algebra.proofs.Exponent.{telescopes}
 use Rattle.algebra.proofs.Powers.{power_one, power_add, power_mul}
@@ -46,7 +46,7 @@ sum_next s k =
 reached : List Step → ℕ → ℕ
 reached [] k = k
 reached (double ∷ steps) k = reached steps (2 * k)
-reached (add-one ∷ steps) k = reached steps (k + 1)
+reached (add_one ∷ steps) k = reached steps (k + 1)
 
 -- what a bit of n is to its parts above and below
 bit_above : (n i : ℕ) → n / 2 ^ i ≡ 2 * (n / 2 ^ suc i) + n / 2 ^ i % 2
@@ -139,7 +139,7 @@ module _ {A : Type 0} {O : Ops A} (R : Ring2 O) (s : ℕ) (u : A) where
       ap (follow O.mul (λ j x. power O x (s ^ j)) u steps (2 * k))
       (ap (λ z. O.mul z (power O u S)) (sym (power_mul R u S (s ^ k))) ∙ sym (power_add R u (S * s ^ k) S) ∙ ap (power O u) (sum_double s k))
       ∙ follow_power steps (2 * k)
-  follow_power (add-one ∷ steps) k = more ∙ follow_power steps (k + 1)
+  follow_power (add_one ∷ steps) k = more ∙ follow_power steps (k + 1)
     where
       more : follow O.mul (λ j x. power O x (s ^ j)) u steps (k + 1) (O.mul u (power O (power O u (sum_of_powers s k)) (s ^ 1)))
           ≡ follow O.mul (λ j x. power O x (s ^ j)) u steps (k + 1) (power O u (sum_of_powers s (k + 1)))
@@ -159,7 +159,7 @@ module _ {A B : Type 0} (O : Ops B) (h : B → A) (product : A → A → A) (rai
   follow_map u (double ∷ steps) k x =
       ap (follow product raised (h u) steps (2 * k)) (ap (λ z. product z (h x)) (powers k x) ∙ products (power O x (s ^ k)) x)
       ∙ follow_map u steps (2 * k) (O.mul (power O x (s ^ k)) x)
-  follow_map u (add-one ∷ steps) k x =
+  follow_map u (add_one ∷ steps) k x =
       ap (follow product raised (h u) steps (k + 1)) (ap (product (h u)) (powers 1 x) ∙ products u (power O x (s ^ 1)))
       ∙ follow_map u steps (k + 1) (O.mul u (power O x (s ^ 1)))
 

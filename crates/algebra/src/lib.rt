@@ -1,5 +1,7 @@
 //! Mathematics that the other crates stand on: operations on any carrier, tuples, products modulo a polynomial, and the fields that are
 //! made of them. There is no program here: a function of this crate does nothing, and its contract is a theorem, which the check proves.
+#![tactic(auto)]
+
 ghost use Rattle.std.specs.Prelude.{List};
 ghost use Rattle.algebra.specs.Alike.{SameOne, TableAlike};
 ghost use Rattle.algebra.specs.Exponent.{InverseStands};

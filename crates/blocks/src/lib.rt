@@ -1,4 +1,6 @@
 //! Arithmetic on blocks of codes over any field.
+#![tactic(auto)]
+
 mod affine;
 mod affine_value;
 mod arithmetic;

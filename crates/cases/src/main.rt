@@ -1,4 +1,6 @@
 //! Tries the library on the numbers of the version in another language, a line each, and says how many came out otherwise.
+#![tactic(auto)]
+
 mod cases;
 
 use cases::{Verdict, try_case};

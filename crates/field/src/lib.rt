@@ -1,4 +1,6 @@
 //! Fields of up to 256 elements: what a field is, and the makes of it.
+#![tactic(auto)]
+
 mod binary;
 mod interface;
 mod power_table_field;

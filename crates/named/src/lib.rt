@@ -1,4 +1,6 @@
 //! Fields by their names: the field that a text such as `tower 1 table 19 2` names.
+#![tactic(auto)]
+
 mod ground;
 mod ground_field;
 mod layer;

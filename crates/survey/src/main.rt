@@ -1,4 +1,6 @@
 //! Reads lines that each name a field, and prints what it finds out of each.
+#![tactic(auto)]
+
 mod codes;
 mod findings;
 

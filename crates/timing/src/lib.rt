@@ -1,5 +1,7 @@
 //! What the program timing/timing.c calls. Each function does its work so many times over a field of the given number, and answers a byte that
 //! depends on all of it.
+#![tactic(auto)]
+
 ghost use Rattle.std.specs.Prelude.{◌≡◌, length};
 
 use blocks::{AffineMap, BlockArithmetic, Modular, Modulus, raise_back, raise_forward};

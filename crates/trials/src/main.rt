@@ -1,4 +1,6 @@
 //! Tries the library on the numbers of the version in another language, a line each, and says how many came out otherwise.
+#![tactic(auto)]
+
 mod block_cases;
 mod block_text;
 mod block_value;

@@ -1,4 +1,6 @@
 //! Worked examples of the definitions.
+#![tactic(auto)]
+
 ghost use Rattle.std.specs.Prelude.{◌≡◌, true};
 ghost use Rattle.worked.specs.Cases.{all_yield, cases};
 
