@@ -44,7 +44,7 @@ impl AffineMap {
     pub fn apply<F: Field>(&self, field: &F, block: &[u8], out: &mut [u8])
         requires block { length block.now ≡ self.now.size }
         requires room { length out.old ≡ self.now.size }
-        ensures { out.new ≡ image (meaning field.now) self.now block.now }
+        ensures { out.new ≡ image (F.meaning field.now) self.now block.now }
     {
         let constants = &self.constants[..];
         let rows = &self.rows[..];
@@ -55,7 +55,7 @@ impl AffineMap {
     /// The inverse of a map that is one to one; nothing for one that is not.
     pub fn inverse<F: Field>(&self, field: &F) -> Option<AffineMap>
         ensures size { IfSome result (λ i. i.size ≡ self.now.size) }
-        ensures verdict { (meaning field.now).sound ≡ true → MapCodes (meaning field.now) self.now → MatchOption result (OneToOne (meaning field.now) self.now.size (image (meaning field.now) self.now) → ⊥) (UndoneBy (meaning field.now) self.now) }
+        ensures verdict { (F.meaning field.now).sound ≡ true → MapCodes (F.meaning field.now) self.now → MatchOption result (OneToOne (F.meaning field.now) self.now.size (image (F.meaning field.now) self.now) → ⊥) (UndoneBy (F.meaning field.now) self.now) }
     {
         let size = self.size;
         let constants = &self.constants[..];

@@ -10,8 +10,8 @@ use crate::stride::Stride;
 
 // Squares a block `count` times.
 fn square_repeatedly<B: BlockArithmetic>(blocks: &B, count: usize, block: &mut [u8])
-    requires { length block.old ≡ (arithmetic blocks.now).size }
-    ensures { block.new ≡ squares (arithmetic blocks.now) count block.old }
+    requires { length block.old ≡ (B.arithmetic blocks.now).size }
+    ensures { block.new ≡ squares (B.arithmetic blocks.now) count block.old }
 {
     for _done in 0..count {
         blocks.square(block);
@@ -20,8 +20,8 @@ fn square_repeatedly<B: BlockArithmetic>(blocks: &B, count: usize, block: &mut [
 
 /// Raises a block to q^count, by as many applications of the q-th power.
 pub fn raise_repeatedly<B: BlockArithmetic>(blocks: &B, count: usize, block: &mut [u8])
-    requires { length block.old ≡ (arithmetic blocks.now).size }
-    ensures { block.new ≡ iterate (arithmetic blocks.now).q_power count block.old }
+    requires { length block.old ≡ (B.arithmetic blocks.now).size }
+    ensures { block.new ≡ iterate (B.arithmetic blocks.now).q_power count block.old }
 {
     for _done in 0..count {
         blocks.raise_to_q(block);
@@ -30,8 +30,8 @@ pub fn raise_repeatedly<B: BlockArithmetic>(blocks: &B, count: usize, block: &mu
 
 /// Takes `count` strides. Raising to q^v changes nothing, so powers of q count modulo v.
 pub fn advance<B: BlockArithmetic>(blocks: &B, stride: Stride, count: usize, block: &mut [u8])
-    requires { length block.old ≡ (arithmetic blocks.now).size }
-    ensures { block.new ≡ strides (arithmetic blocks.now) stride count block.old }
+    requires { length block.old ≡ (B.arithmetic blocks.now).size }
+    ensures { block.new ≡ strides (B.arithmetic blocks.now) stride count block.old }
 {
     match stride {
         Stride::Square => square_repeatedly(blocks, count, block),
@@ -44,8 +44,8 @@ pub fn advance<B: BlockArithmetic>(blocks: &B, stride: Stride, count: usize, blo
 
 // From the product of the first `terms` terms to that of twice as many.
 fn double<B: BlockArithmetic>(blocks: &B, stride: Stride, terms: usize, block: &mut [u8])
-    requires { length block.old ≡ (arithmetic blocks.now).size }
-    ensures { block.new ≡ (arithmetic blocks.now).product (strides (arithmetic blocks.now) stride terms block.old) block.old }
+    requires { length block.old ≡ (B.arithmetic blocks.now).size }
+    ensures { block.new ≡ (B.arithmetic blocks.now).product (strides (B.arithmetic blocks.now) stride terms block.old) block.old }
 {
     let mut room = [0u8; WIDEST];
     let raised = &mut room[0..blocks.size()];
@@ -56,9 +56,9 @@ fn double<B: BlockArithmetic>(blocks: &B, stride: Stride, terms: usize, block: &
 
 // From the product of some terms to that of one more.
 fn add_one<B: BlockArithmetic>(blocks: &B, stride: Stride, first: &[u8], block: &mut [u8])
-    requires first { length first.now ≡ (arithmetic blocks.now).size }
-    requires block { length block.old ≡ (arithmetic blocks.now).size }
-    ensures { block.new ≡ (arithmetic blocks.now).product first.now (strides (arithmetic blocks.now) stride 1 block.old) }
+    requires first { length first.now ≡ (B.arithmetic blocks.now).size }
+    requires block { length block.old ≡ (B.arithmetic blocks.now).size }
+    ensures { block.new ≡ (B.arithmetic blocks.now).product first.now (strides (B.arithmetic blocks.now) stride 1 block.old) }
 {
     advance(blocks, stride, 1, block);
     blocks.multiply(first, block);
@@ -67,8 +67,8 @@ fn add_one<B: BlockArithmetic>(blocks: &B, stride: Stride, first: &[u8], block: 
 /// Makes a block the product of the n terms that it and its strides are, by the chain to n.
 pub fn follow_chain<B: BlockArithmetic>(blocks: &B, stride: Stride, n: usize, block: &mut [u8])
     requires some { 1 ≤ n }
-    requires size { length block.old ≡ (arithmetic blocks.now).size }
-    ensures { block.new ≡ by_chain (arithmetic blocks.now).product (strides (arithmetic blocks.now) stride) n block.old }
+    requires size { length block.old ≡ (B.arithmetic blocks.now).size }
+    ensures { block.new ≡ by_chain (B.arithmetic blocks.now).product (strides (B.arithmetic blocks.now) stride) n block.old }
 {
     let mut room = [0u8; WIDEST];
     let first = &mut room[0..blocks.size()];

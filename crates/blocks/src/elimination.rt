@@ -18,7 +18,7 @@ fn sheared_row<F: Field>(
     mut row: [u8; WIDEST],
 ) -> [u8; WIDEST]
     requires { place < 32 }
-    ensures { result ≡ shear_row (on_bytes (meaning field.now)) factor place step.now row }
+    ensures { result ≡ shear_row (on_bytes (F.meaning field.now)) factor place step.now row }
 {
     let multiple = field.product(factor, row[place]);
     add_multiple(field, multiple, step, &mut row);
@@ -34,7 +34,7 @@ fn shear_rows<F: Field>(
     rows: &mut [[u8; WIDEST]],
 )
     requires { place < 32 }
-    ensures { rows.new ≡ map (shear_row (on_bytes (meaning field.now)) factor place step.now) rows.old }
+    ensures { rows.new ≡ map (shear_row (on_bytes (F.meaning field.now)) factor place step.now) rows.old }
 {
     for i in 0..rows.len() {
         rows[i] = sheared_row(field, factor, place, step, rows[i]);
@@ -43,7 +43,7 @@ fn shear_rows<F: Field>(
 
 // The code that makes the one with `a`; where there is none, the last code.
 fn inverse_code<F: Field>(field: &F, a: u8) -> u8
-    ensures { result ≡ inverse_code (meaning field.now) a }
+    ensures { result ≡ inverse_code (F.meaning field.now) a }
 {
     let last = ((1u16 << field.width()) - 1) as u8;
     for b in 0..last {
@@ -70,7 +70,7 @@ fn pivot_place(row: &[u8], k: usize) -> usize
 // Writes units: row i has one at place i and zeros elsewhere.
 fn write_units<F: Field>(field: &F, rows: &mut [[u8; WIDEST]])
     requires { length rows.old ≤ 32 }
-    ensures { rows.new ≡ basis_from (on_bytes (meaning field.now)) 32 0 (length rows.old) }
+    ensures { rows.new ≡ basis_from (on_bytes (F.meaning field.now)) 32 0 (length rows.old) }
 {
     for i in 0..rows.len() {
         let mut row = [0u8; WIDEST];
@@ -89,8 +89,8 @@ fn lead<F: Field>(
 )
     requires place { place < 32 }
     requires row { k < 32 }
-    ensures work { work.new ≡ map (lead_step (meaning field.now) place k) work.old }
-    ensures account { account.new ≡ map (lead_step (meaning field.now) place k) account.old }
+    ensures work { work.new ≡ map (lead_step (F.meaning field.now) place k) work.old }
+    ensures account { account.new ≡ map (lead_step (F.meaning field.now) place k) account.old }
 {
     if place != k {
         let mut step = [0u8; WIDEST];
@@ -104,8 +104,8 @@ fn lead<F: Field>(
 fn clear<F: Field>(field: &F, k: usize, work: &mut [[u8; WIDEST]], account: &mut [[u8; WIDEST]])
     requires row { k < length work.old }
     requires few { length work.old ≤ 32 }
-    ensures work { work.new ≡ map (pivot_step (meaning field.now) k (slice_index_or work.old k [])) work.old }
-    ensures account { account.new ≡ map (pivot_step (meaning field.now) k (slice_index_or work.old k [])) account.old }
+    ensures work { work.new ≡ map (pivot_step (F.meaning field.now) k (slice_index_or work.old k [])) work.old }
+    ensures account { account.new ≡ map (pivot_step (F.meaning field.now) k (slice_index_or work.old k [])) account.old }
 {
     let mut step = work[k];
     let factor = inverse_code(field, step[k]);
@@ -123,7 +123,7 @@ fn reduce_row<F: Field>(
 ) -> bool
     requires row { k < length work.old }
     requires few { length work.old ≤ 32 }
-    ensures { RowReduced (meaning field.now) k work.old account.old result work.new account.new }
+    ensures { RowReduced (F.meaning field.now) k work.old account.old result work.new account.new }
 {
     let size = work.len();
     let row = work[k];
@@ -144,7 +144,7 @@ pub(crate) fn eliminate<F: Field>(
 ) -> bool
     requires few { length work.old ≤ 32 }
     requires same { length account.old ≡ length work.old }
-    ensures { Laws (meaning field.now) → Square (meaning field.now) (length work.old) (map (take (length work.old)) work.old) → DecidesInverse (meaning field.now) (length work.old) (map (take (length work.old)) work.old) result (map (take (length work.old)) account.new) }
+    ensures { Laws (F.meaning field.now) → Square (F.meaning field.now) (length work.old) (map (take (length work.old)) work.old) → DecidesInverse (F.meaning field.now) (length work.old) (map (take (length work.old)) work.old) result (map (take (length work.old)) account.new) }
 {
     write_units(field, account);
     for k in 0..work.len() {
@@ -162,7 +162,7 @@ pub(crate) fn inverse_rows<F: Field>(
     rows: [[u8; WIDEST]; WIDEST],
 ) -> Option<[[u8; WIDEST]; WIDEST]>
     requires { size ≤ 32 }
-    ensures { Laws (meaning field.now) → Square (meaning field.now) size (map (take size) (take size rows)) → MatchOption result (DecidesInverse (meaning field.now) size (map (take size) (take size rows)) false []) (λ inverse. DecidesInverse (meaning field.now) size (map (take size) (take size rows)) true (map (take size) (take size inverse))) }
+    ensures { Laws (F.meaning field.now) → Square (F.meaning field.now) size (map (take size) (take size rows)) → MatchOption result (DecidesInverse (F.meaning field.now) size (map (take size) (take size rows)) false []) (λ inverse. DecidesInverse (F.meaning field.now) size (map (take size) (take size rows)) true (map (take size) (take size inverse))) }
 {
     let mut work = rows;
     let mut account = [[0u8; WIDEST]; WIDEST];

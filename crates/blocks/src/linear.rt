@@ -11,7 +11,7 @@ use field::Field;
 pub fn add_combination<F: Field>(field: &F, rows: &[[u8; WIDEST]], factors: &[u8], sum: &mut [u8])
     requires enough { length factors.now ≤ length rows.now }
     requires small { length sum.old ≤ 32 }
-    ensures { sum.new ≡ combination (on_bytes (meaning field.now)) sum.old rows.now factors.now }
+    ensures { sum.new ≡ combination (on_bytes (F.meaning field.now)) sum.old rows.now factors.now }
 {
     for i in (0..factors.len()).rev() {
         let row = rows[i];

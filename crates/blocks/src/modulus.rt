@@ -16,8 +16,8 @@ impl Modulus {
         requires some { 1 ≤ length low.now }
         requires few { length low.now ≤ 32 }
         ensures coefficients { coefficients result ≡ low.now }
-        ensures rows { kept_rows result ≡ q_rows (meaning field.now) low.now }
-        ensures lawful { (meaning field.now).sound ≡ true → Codes (meaning field.now) low.now → Lawful (arithmetic_of (meaning field.now) result) }
+        ensures rows { kept_rows result ≡ q_rows (F.meaning field.now) low.now }
+        ensures lawful { (F.meaning field.now).sound ≡ true → Codes (F.meaning field.now) low.now → Lawful (arithmetic_of (F.meaning field.now) result) }
     {
         let mut rows = [[0u8; WIDEST]; WIDEST];
         write_rows(field, low, &mut rows);

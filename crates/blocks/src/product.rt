@@ -13,8 +13,8 @@ pub fn multiply<F: Field>(field: &F, modulus: &[u8], a: &[u8], b: &[u8], product
     requires some { 0 < length modulus.now }
     requires operand { length b.now ≡ length modulus.now }
     requires room { length product.old ≡ length modulus.now }
-    ensures bytes { product.new ≡ times (on_bytes (meaning field.now)) modulus.now a.now b.now }
-    ensures codes { Codes (meaning field.now) modulus.now → Codes (meaning field.now) a.now → Codes (meaning field.now) b.now → product.new ≡ times (operations (meaning field.now)) modulus.now a.now b.now }
+    ensures bytes { product.new ≡ times (on_bytes (F.meaning field.now)) modulus.now a.now b.now }
+    ensures codes { Codes (F.meaning field.now) modulus.now → Codes (F.meaning field.now) a.now → Codes (F.meaning field.now) b.now → product.new ≡ times (operations (F.meaning field.now)) modulus.now a.now b.now }
 {
     product.fill(0);
     for i in (0..a.len()).rev() {
@@ -33,7 +33,7 @@ pub(crate) fn multiply_in_place<F: Field>(
     requires some { 0 < length modulus.now }
     requires few { length modulus.now ≤ 32 }
     requires same { length block.old ≡ length modulus.now }
-    ensures { block.new ≡ times (on_bytes (meaning field.now)) modulus.now factor.now block.old }
+    ensures { block.new ≡ times (on_bytes (F.meaning field.now)) modulus.now factor.now block.old }
 {
     let mut room = [0u8; WIDEST];
     let product = &mut room[0..modulus.len()];
@@ -46,7 +46,7 @@ pub(crate) fn square_in_place<F: Field>(field: &F, modulus: &[u8], block: &mut [
     requires some { 0 < length modulus.now }
     requires few { length modulus.now ≤ 32 }
     requires same { length block.old ≡ length modulus.now }
-    ensures { block.new ≡ times (on_bytes (meaning field.now)) modulus.now block.old block.old }
+    ensures { block.new ≡ times (on_bytes (F.meaning field.now)) modulus.now block.old block.old }
 {
     let mut room = [0u8; WIDEST];
     let product = &mut room[0..modulus.len()];

@@ -22,7 +22,7 @@ pub(crate) fn padded(block: &[u8]) -> [u8; WIDEST]
 // Makes a block the unit: one, and zeros behind it.
 pub(crate) fn write_one<F: Field>(field: &F, block: &mut [u8])
     requires { 0 < length block.old }
-    ensures { block.new ≡ unit (on_bytes (meaning field.now)) (length block.old) }
+    ensures { block.new ≡ unit (on_bytes (F.meaning field.now)) (length block.old) }
 {
     block.fill(0);
     block[0] = field.one();
@@ -32,7 +32,7 @@ pub(crate) fn write_one<F: Field>(field: &F, block: &mut [u8])
 pub(crate) fn write_x<F: Field>(field: &F, modulus: &[u8], block: &mut [u8])
     requires some { 0 < length modulus.now }
     requires same { length block.old ≡ length modulus.now }
-    ensures { block.new ≡ variable (on_bytes (meaning field.now)) modulus.now }
+    ensures { block.new ≡ variable (on_bytes (F.meaning field.now)) modulus.now }
 {
     write_one(field, block);
     multiply_by_x(field, modulus, block);
@@ -43,7 +43,7 @@ fn write_x_to_q<F: Field>(field: &F, modulus: &[u8], block: &mut [u8])
     requires some { 0 < length modulus.now }
     requires few { length modulus.now ≤ 32 }
     requires same { length block.old ≡ length modulus.now }
-    ensures { block.new ≡ x_to_q (meaning field.now) modulus.now }
+    ensures { block.new ≡ x_to_q (F.meaning field.now) modulus.now }
 {
     write_x(field, modulus, block);
     for _done in 0..field.width() {
@@ -56,7 +56,7 @@ pub(crate) fn write_rows<F: Field>(field: &F, modulus: &[u8], rows: &mut [[u8; W
     requires some { 0 < length modulus.now }
     requires few { length modulus.now ≤ 32 }
     requires tall { length modulus.now ≤ length rows.old }
-    ensures rows { map (take (length modulus.now)) (take (length modulus.now) rows.new) ≡ q_rows (meaning field.now) modulus.now }
+    ensures rows { map (take (length modulus.now)) (take (length modulus.now) rows.new) ≡ q_rows (F.meaning field.now) modulus.now }
     ensures rest { drop (length modulus.now) rows.new ≡ drop (length modulus.now) rows.old }
 {
     let size = modulus.len();

@@ -18,7 +18,7 @@ fn same(a: &[u8], b: &[u8]) -> bool
 
 /// Whether a modulus that was made over this field follows the rule: the q-th power, taken v times over, leaves X.
 pub fn follows_rule<F: Field>(field: &F, modulus: &Modulus) -> bool
-    ensures { RuleVerdict (meaning field.now) modulus.now result }
+    ensures { RuleVerdict (F.meaning field.now) modulus.now result }
 {
     let size = modulus.size;
     let low = &modulus.low[..];

@@ -10,9 +10,9 @@ use crate::stride::Stride;
 
 /// Raises a block to 1 + q^t.
 pub fn raise_forward<B: BlockArithmetic>(blocks: &B, t: usize, block: &mut [u8])
-    requires { length block.old ≡ (arithmetic blocks.now).size }
-    ensures step { block.new ≡ forward_step (arithmetic blocks.now) t block.old }
-    ensures power { Lawful (arithmetic blocks.now) → BlockOf (arithmetic blocks.now) block.old → block.new ≡ forward_power (arithmetic blocks.now) t block.old }
+    requires { length block.old ≡ (B.arithmetic blocks.now).size }
+    ensures step { block.new ≡ forward_step (B.arithmetic blocks.now) t block.old }
+    ensures power { Lawful (B.arithmetic blocks.now) → BlockOf (B.arithmetic blocks.now) block.old → block.new ≡ forward_power (B.arithmetic blocks.now) t block.old }
 {
     let mut room = [0u8; WIDEST];
     let raised = &mut room[0..blocks.size()];
@@ -23,12 +23,12 @@ pub fn raise_forward<B: BlockArithmetic>(blocks: &B, t: usize, block: &mut [u8])
 
 /// Raises a block to the exponent that undoes 1 + q^t, in small steps, for blocks of size (2l + 1)·2^r.
 pub fn raise_back<B: BlockArithmetic>(blocks: &B, l: usize, t: usize, block: &mut [u8])
-    requires size { length block.old ≡ (arithmetic blocks.now).size }
+    requires size { length block.old ≡ (B.arithmetic blocks.now).size }
     requires factor { 1 ≤ l }
     requires exponent { 1 ≤ t }
-    requires below { t < (arithmetic blocks.now).size }
-    ensures step { block.new ≡ back_step (arithmetic blocks.now) l t block.old }
-    ensures power { Lawful (arithmetic blocks.now) → Returns (arithmetic blocks.now) → Suits (arithmetic blocks.now).size l t → BlockOf (arithmetic blocks.now) block.old → block.new ≡ back_power (arithmetic blocks.now) t block.old }
+    requires below { t < (B.arithmetic blocks.now).size }
+    ensures step { block.new ≡ back_step (B.arithmetic blocks.now) l t block.old }
+    ensures power { Lawful (B.arithmetic blocks.now) → Returns (B.arithmetic blocks.now) → Suits (B.arithmetic blocks.now).size l t → BlockOf (B.arithmetic blocks.now) block.old → block.new ≡ back_power (B.arithmetic blocks.now) t block.old }
 {
     let width = blocks.width() as usize;
     let mut room = [0u8; WIDEST];
@@ -45,5 +45,5 @@ pub fn raise_back<B: BlockArithmetic>(blocks: &B, l: usize, t: usize, block: &mu
 
 /// In lawful arithmetic where every block is its own q^v-th power, the two steps undo each other at every block.
 pub fn steps_undo<B: BlockArithmetic>(blocks: &B)
-    ensures { BlocksUndo (arithmetic blocks.now) }
+    ensures { BlocksUndo (B.arithmetic blocks.now) }
 {}

@@ -9,8 +9,8 @@ use field::Field;
 /// Adds `factor` times `block` to `sum`, place by place, as far as `sum` goes.
 pub fn add_multiple<F: Field>(field: &F, factor: u8, block: &[u8], sum: &mut [u8])
     requires { length sum.old ≤ length block.now }
-    ensures bytes { sum.new ≡ plus (on_bytes (meaning field.now)) (scale (on_bytes (meaning field.now)) factor block.now) sum.old }
-    ensures codes { IsCode (meaning field.now) factor → Codes (meaning field.now) block.now → sum.new ≡ plus (operations (meaning field.now)) (scale (operations (meaning field.now)) factor block.now) sum.old }
+    ensures bytes { sum.new ≡ plus (on_bytes (F.meaning field.now)) (scale (on_bytes (F.meaning field.now)) factor block.now) sum.old }
+    ensures codes { IsCode (F.meaning field.now) factor → Codes (F.meaning field.now) block.now → sum.new ≡ plus (operations (F.meaning field.now)) (scale (operations (F.meaning field.now)) factor block.now) sum.old }
 {
     for i in 0..sum.len() {
         sum[i] ^= field.product(factor, block[i]);
@@ -21,8 +21,8 @@ pub fn add_multiple<F: Field>(field: &F, factor: u8, block: &[u8], sum: &mut [u8
 pub fn multiply_by_x<F: Field>(field: &F, modulus: &[u8], block: &mut [u8])
     requires same { length block.old ≡ length modulus.now }
     requires some { 0 < length block.old }
-    ensures bytes { block.new ≡ times_x (on_bytes (meaning field.now)) modulus.now block.old }
-    ensures codes { Codes (meaning field.now) block.old → Codes (meaning field.now) modulus.now → block.new ≡ times_x (operations (meaning field.now)) modulus.now block.old }
+    ensures bytes { block.new ≡ times_x (on_bytes (F.meaning field.now)) modulus.now block.old }
+    ensures codes { Codes (F.meaning field.now) block.old → Codes (F.meaning field.now) modulus.now → block.new ≡ times_x (operations (F.meaning field.now)) modulus.now block.old }
 {
     let top = block[block.len() - 1];
     for i in (1..block.len()).rev() {

@@ -29,11 +29,11 @@ fn element(c: u32, width: u8) -> u8
 
 // The product of two codes of the tower, by the products and sums of the field below.
 fn product_of_pairs<F: Field>(base: &F, c: u8, x: u8, y: u8) -> u8
-    requires narrow { (meaning base.now).width ≤ 4 }
-    requires element { IsCode (meaning base.now) c }
-    requires left { x < 2 ^ (2 * (meaning base.now).width) }
-    requires right { y < 2 ^ (2 * (meaning base.now).width) }
-    ensures { result ≡ tower_product (meaning base.now) c x y }
+    requires narrow { (F.meaning base.now).width ≤ 4 }
+    requires element { IsCode (F.meaning base.now) c }
+    requires left { x < 2 ^ (2 * (F.meaning base.now).width) }
+    requires right { y < 2 ^ (2 * (F.meaning base.now).width) }
+    ensures { result ≡ tower_product (F.meaning base.now) c x y }
 {
     let m = base.width();
     let mask = ((1u32 << m) - 1) as u8;
@@ -47,8 +47,8 @@ fn product_of_pairs<F: Field>(base: &F, c: u8, x: u8, y: u8) -> u8
 
 // Whether some code r of the field below has rr + r = c.
 fn has_root<F: Field>(base: &F, c: u8) -> bool
-    requires { (meaning base.now).width ≤ 4 }
-    ensures { result ≡ has_root (meaning base.now) c }
+    requires { (F.meaning base.now).width ≤ 4 }
+    ensures { result ≡ has_root (F.meaning base.now) c }
 {
     for r in 0..1u8 << base.width() {
         if base.product(r, r) ^ r == c {

@@ -6,15 +6,15 @@ use field::Field;
 
 // How many codes there are.
 fn number_of_codes<F: Field>(field: &F) -> u16
-    ensures { result ≡ 2 ^ (meaning field.now).width }
+    ensures { result ≡ 2 ^ (F.meaning field.now).width }
 {
     1 << field.width()
 }
 
 // Whether some code times `a` is one.
 fn has_inverse<F: Field>(field: &F, a: u8) -> bool
-    requires { a < 2 ^ (meaning field.now).width }
-    ensures { result ≡ has_inverse (meaning field.now) a }
+    requires { a < 2 ^ (F.meaning field.now).width }
+    ensures { result ≡ has_inverse (F.meaning field.now) a }
 {
     let one = field.one();
     for b in 0..number_of_codes(field) {
@@ -27,7 +27,7 @@ fn has_inverse<F: Field>(field: &F, a: u8) -> bool
 
 // How many codes have an inverse.
 pub fn invertible<F: Field>(field: &F) -> u16
-    ensures { result ≡ invertible (meaning field.now) }
+    ensures { result ≡ invertible (F.meaning field.now) }
 {
     let mut count = 0u16;
     for a in 0..number_of_codes(field) {
@@ -40,8 +40,8 @@ pub fn invertible<F: Field>(field: &F) -> u16
 
 // The smallest number of copies of `a`, from 1 up, whose product is one; 0 if there is none.
 fn period<F: Field>(field: &F, a: u8) -> u16
-    requires { a < 2 ^ (meaning field.now).width }
-    ensures { result ≡ period (meaning field.now) a }
+    requires { a < 2 ^ (F.meaning field.now).width }
+    ensures { result ≡ period (F.meaning field.now) a }
 {
     let one = field.one();
     let mut x = one;
@@ -56,7 +56,7 @@ fn period<F: Field>(field: &F, a: u8) -> u16
 
 // The largest period of a code.
 pub fn longest_period<F: Field>(field: &F) -> u16
-    ensures { result ≡ longest_period (meaning field.now) }
+    ensures { result ≡ longest_period (F.meaning field.now) }
 {
     let mut longest = 0u16;
     for a in 0..number_of_codes(field) {

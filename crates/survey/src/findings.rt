@@ -24,8 +24,8 @@ pub struct Findings {
 
 /// In a sound field every code but 0 has an inverse.
 pub fn look_at<F: Field>(field: &F) -> Findings
-    ensures value { result ≡ findings (meaning field.now) }
-    ensures inverses { (meaning field.now).sound ≡ true → invertible (meaning field.now) ≡ 2 ^ (meaning field.now).width - 1 }
+    ensures value { result ≡ findings (F.meaning field.now) }
+    ensures inverses { (F.meaning field.now).sound ≡ true → invertible (F.meaning field.now) ≡ 2 ^ (F.meaning field.now).width - 1 }
 {
     let width = field.width();
     let one = field.one();

@@ -55,7 +55,7 @@ fn take_step<B: BlockArithmetic>(blocks: &B, step: &Step, block: &mut [u8]) -> O
 }
 
 fn take_product<B: BlockArithmetic>(blocks: &B, factor: &Block, block: &mut [u8]) -> Option<()>
-    requires { length block.old ≡ (arithmetic blocks.now).size }
+    requires { length block.old ≡ (B.arithmetic blocks.now).size }
 {
     if factor.size != blocks.size() {
         return None;
@@ -66,7 +66,7 @@ fn take_product<B: BlockArithmetic>(blocks: &B, factor: &Block, block: &mut [u8]
 }
 
 fn take_back<B: BlockArithmetic>(blocks: &B, l: usize, t: usize, block: &mut [u8]) -> Option<()>
-    requires { length block.old ≡ (arithmetic blocks.now).size }
+    requires { length block.old ≡ (B.arithmetic blocks.now).size }
 {
     if l == 0 || t == 0 || t >= blocks.size() {
         return None;

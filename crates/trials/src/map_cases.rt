@@ -50,7 +50,7 @@ fn made_map(codes: &MapCodes, size: usize) -> Option<AffineMap>
 
 // Whether the map sends one block to the other; none where it works on blocks of another size.
 fn sends<F: Field>(field: &F, map: &AffineMap, block: &Block, other: &Block) -> Option<bool>
-    ensures { IfSome result (λ b. Decides b (image (meaning field.now) map.now (take block.now.size block.now.room) ≡ take other.now.size other.now.room)) }
+    ensures { IfSome result (λ b. Decides b (image (F.meaning field.now) map.now (take block.now.size block.now.room) ≡ take other.now.size other.now.room)) }
 {
     if map.size() != block.size || map.size() != other.size {
         return None;

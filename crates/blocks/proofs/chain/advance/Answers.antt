@@ -11,7 +11,7 @@ returns-in-Power g c =
     let A = g.B.BlockArithmetic.arithmetic c.args.blocks.now in
     let u = c.args.block.now in
     let k = c.in-Power.k in
-    c.raise-repeatedly.ensures
+    c.raise_repeatedly.ensures
     ∙ ap (λ n. iterate A.q_power n u)
     (both_residues c.size-v.result k c.args.count ∙ ap (λ v. k * c.args.count % v) c.size-v.ensures.value)
     ∙ ap (λ s. strides A s c.args.count u) (sym c.in-Power.is)

@@ -43,10 +43,10 @@ loop-i-preserved-then-n-i-eq1 g c =
     let n = c.args.n in
     let i = c.loop-i.i in
     let x = c.loop-i.block in
-    after_turn A.product raised u n i x c.add-one.new.block (by_chain A.product raised n u) c.loop-i-test.true
+    after_turn A.product raised u n i x c.add_one.new.block (by_chain A.product raised n u) c.loop-i-test.true
     (ap (follow A.product raised u (steps_for n (i - 1)) (n / 2 ^ (i - 1)))
-    (c.add-one.ensures
-    ∙ ap₂ (λ (y z : List ℕ). A.product y (raised 1 z)) c.copy-from-slice.ensures.after (doubled A.product raised n (i - 1) x c.double.new.block c.double.ensures))
+    (c.add_one.ensures
+    ∙ ap₂ (λ (y z : List ℕ). A.product y (raised 1 z)) c.copy_from_slice.ensures.after (doubled A.product raised n (i - 1) x c.double.new.block c.double.ensures))
     ∙ turn_set A.product raised u n (i - 1) x c.if-n-i-eq1.true) c.loop-i.invariant
 
 pub returns : goal.returns

@@ -14,8 +14,8 @@ loop-k-init g c =
     let M = g.F.Field.meaning x in
     let n = length c.args.work.now in
     let rows = map (take n) c.args.work.now in
-    let units : map (take n) c.write-units.new.rows ≡ basis_from (on_bytes M) n 0 n
-    = ap (map (take n)) (c.write-units.ensures ∙ ap (basis_from (on_bytes M) 32 0) c.requires.same) ∙ basis_from_cut (on_bytes M) n 32 0 n c.requires.few (omega arith) in
+    let units : map (take n) c.write_units.new.rows ≡ basis_from (on_bytes M) n 0 n
+    = ap (map (take n)) (c.write_units.ensures ∙ ap (basis_from (on_bytes M) 32 0) c.requires.same) ∙ basis_from_cut (on_bytes M) n 32 0 n c.requires.few (omega arith) in
     (c.told-work, λ laws square. subst (Reducing M (g.met.F.Field.shape x) n rows 0 rows) (sym units) (started M (g.met.F.Field.shape x) n laws rows square))
 
 pub loop-k-preserved : goal.loop-k-preserved
@@ -32,13 +32,13 @@ loop-k-preserved g c =
     let row_of : ℕ → List ℕ = λ m. take m (get_or W k []) in
     let place = pivot_place k (row_of n) in
     let found : place < n
-    = subst (λ m. pivot_place k (row_of m) < m) tall (ltb-true (pivot_place k (row_of (length W))) (length W) (sym c.reduce-row.ensures.found ∙ c.if-not-reduce-row.false)) in
+    = subst (λ m. pivot_place k (row_of m) < m) tall (ltb-true (pivot_place k (row_of (length W))) (length W) (sym c.reduce_row.ensures.found ∙ c.if-not-reduce_row.false)) in
     let led : List (List ℕ) → List (List ℕ) = λ X. map (lead_step M place k) X in
-    let new = c.reduce-row.ensures.leads c.if-not-reduce-row.false in
+    let new = c.reduce_row.ensures.leads c.if-not-reduce_row.false in
     let step : List (List ℕ) → List (List ℕ) = λ X. map (pivot_step M k (get_or (led W) k [])) (led X) in
-    let W-is : c.reduce-row.new.work ≡ step W
+    let W-is : c.reduce_row.new.work ≡ step W
     = new.0 ∙ ap (λ m. map (pivot_step M k (get_or (map (lead_step M (pivot_place k (row_of m)) k) W) k [])) (map (lead_step M (pivot_place k (row_of m)) k) W)) tall in
-    let c_is : c.reduce-row.new.account ≡ step C
+    let c_is : c.reduce_row.new.account ≡ step C
     = new.1 ∙ ap (λ m. map (pivot_step M k (get_or (map (lead_step M (pivot_place k (row_of m)) k) W) k [])) (map (lead_step M (pivot_place k (row_of m)) k) C)) tall in
     let inside : k < length W = omega (arith, tall, c.loop-k-test.true) in (
       subst Rooms (sym W-is) (rooms_stay M place k W inside c.loop-k.invariant.0),
@@ -47,12 +47,12 @@ loop-k-preserved g c =
           = row_done M s laws n k rows W C tall c.requires.few c.loop-k-test.true c.loop-k.invariant.0 (c.loop-k.invariant.1 laws square) found in
           let one_more : Reducing M s n rows (k + 1) (map (take n) (step W)) (map (take n) (step C))
           = subst (λ m. Reducing M s n rows m (map (take n) (step W)) (map (take n) (step C))) (sym (add-one k)) done in
-          subst (λ X. Reducing M s n rows (k + 1) (map (take n) X) (map (take n) c.reduce-row.new.account)) (sym W-is)
+          subst (λ X. Reducing M s n rows (k + 1) (map (take n) X) (map (take n) c.reduce_row.new.account)) (sym W-is)
           (subst (λ X. Reducing M s n rows (k + 1) (map (take n) (step W)) (map (take n) X)) (sym c_is) one_more),
     )
 
-pub returns-then-not-reduce-row : goal.returns-then-not-reduce-row
-returns-then-not-reduce-row g c laws square =
+pub returns-then-not-reduce_row : goal.returns-then-not-reduce_row
+returns-then-not-reduce_row g c laws square =
     let x = c.args.field.now in
     let M = g.F.Field.meaning x in
     let n = length c.args.work.now in
@@ -62,7 +62,7 @@ returns-then-not-reduce-row g c laws square =
     let tall : length W ≡ n = c.loop-k.auto.work in
     let none : n ≤ pivot_place k (take n (get_or W k []))
     = subst (λ m. m ≤ pivot_place k (take m (get_or W k []))) tall
-    (ltb-false (pivot_place k (take (length W) (get_or W k []))) (length W) (sym c.reduce-row.ensures.found ∙ c.if-not-reduce-row.true)) in
+    (ltb-false (pivot_place k (take (length W) (get_or W k []))) (length W) (sym c.reduce_row.ensures.found ∙ c.if-not-reduce_row.true)) in
     record {
       square = λ e. absurd (false≢true e);
       inverts = λ e. absurd (false≢true e);

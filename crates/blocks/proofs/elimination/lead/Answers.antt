@@ -28,10 +28,10 @@ pub returns-then-place-k : goal.returns-then-place-k
 returns-then-place-k g c =
     let M = g.F.Field.meaning c.args.field.now in
     record {
-      work = moves M c.args.place c.args.k c.one-then-place-k.result c.one.result c.args.work.now c.shear-rows.new.rows c.if-place-k.true
-          c.one-then-place-k.ensures c.one.ensures c.shear-rows.ensures;
-      account = moves M c.args.place c.args.k c.one-then-place-k-2.result c.one.result c.args.account.now c.shear-rows-then-place-k.new.rows c.if-place-k.true
-          c.one-then-place-k-2.ensures c.one.ensures c.shear-rows-then-place-k.ensures;
+      work = moves M c.args.place c.args.k c.one-then-place-k.result c.one.result c.args.work.now c.shear_rows.new.rows c.if-place-k.true
+          c.one-then-place-k.ensures c.one.ensures c.shear_rows.ensures;
+      account = moves M c.args.place c.args.k c.one-then-place-k-2.result c.one.result c.args.account.now c.shear_rows-then-place-k.new.rows c.if-place-k.true
+          c.one-then-place-k-2.ensures c.one.ensures c.shear_rows-then-place-k.ensures;
     }
 
 pub returns-else-place-k : goal.returns-else-place-k

@@ -17,7 +17,7 @@ within W k place less few room is =
 pub lead-requires : goal.lead-requires
 lead-requires g c =
     let W = c.args.work.now in
-    let h = within W c.args.k c.pivot-place-place.result c.requires.row c.requires.few (c.told-work c.args.k c.requires.row) c.pivot-place-place.ensures in
+    let h = within W c.args.k c.pivot_place-place.result c.requires.row c.requires.few (c.told-work c.args.k c.requires.row) c.pivot_place-place.ensures in
     record { place = omega (arith, h, c.requires.few, c.if-place-size.false); row = omega (arith, c.requires.row, c.requires.few) }
 
 pub returns : goal.returns
@@ -26,8 +26,8 @@ returns g c =
     let M = g.F.Field.meaning c.args.field.now in
     let n = length W in
     let k = c.args.k in
-    let place_is : c.pivot-place-place.result ≡ pivot_place k (take n (get_or W k [])) = c.pivot-place-place.ensures ∙ ap (λ m. pivot_place k (take m (get_or W k []))) (sub-zero n) in
-    let h = within W k c.pivot-place-place.result c.requires.row c.requires.few (c.told-work k c.requires.row) c.pivot-place-place.ensures in
+    let place_is : c.pivot_place-place.result ≡ pivot_place k (take n (get_or W k [])) = c.pivot_place-place.ensures ∙ ap (λ m. pivot_place k (take m (get_or W k []))) (sub-zero n) in
+    let h = within W k c.pivot_place-place.result c.requires.row c.requires.few (c.told-work k c.requires.row) c.pivot_place-place.ensures in
     let p = pivot_place k (take n (get_or W k [])) in
     let led-is : c.lead.new.work ≡ map (lead_step M p k) W = c.lead.ensures.work ∙ ap (λ j. map (lead_step M j k) W) place_is in
     let account-is : c.lead.new.account ≡ map (lead_step M p k) c.args.account.now = c.lead.ensures.account ∙ ap (λ j. map (lead_step M j k) c.args.account.now) place_is in

@@ -15,7 +15,7 @@ loop-i-preserved g c =
     let rows = c.loop-i.rows in
     let row = get_or rows i [] in
     let inside : i < length rows = omega (arith, c.loop-i-test.true, c.loop-i.auto.rows) in
-    ap (set rows i) c.sheared-row.ensures ∙ map_over_more f c.args.rows.now rows i row c.loop-i-test.true c.loop-i.invariant (get_or_default rows i [] row inside)
+    ap (set rows i) c.sheared_row.ensures ∙ map_over_more f c.args.rows.now rows i row c.loop-i-test.true c.loop-i.invariant (get_or_default rows i [] row inside)
 
 pub returns : goal.returns
 returns g c =

@@ -10,15 +10,15 @@ loop-i-init g c =
     let M = g.F.Field.meaning c.args.field.now in
     c.fill.ensures.after (λ y e. e) ∙ blank M c.args.modulus.now c.args.a.now c.args.b.now (length c.args.product.now) (c.requires.room ∙ sym c.requires.operand)
 
-pub multiply-by-x-requires : goal.multiply-by-x-requires
-multiply-by-x-requires g c =
+pub multiply_by_x-requires : goal.multiply_by_x-requires
+multiply_by_x-requires g c =
     let same : length c.loop-i.product ≡ length c.args.modulus.now = c.loop-i.auto.product ∙ c.fill.ensures.len ∙ c.requires.room in
     record { same = same; some = subst (λ n. 0 < n) (sym same) c.requires.some }
 
-pub add-multiple-requires : goal.add-multiple-requires
-add-multiple-requires g c =
-    let same : length c.multiply-by-x.new.block ≡ length c.args.b.now
-    = ap length c.multiply-by-x.ensures
+pub add_multiple-requires : goal.add_multiple-requires
+add_multiple-requires g c =
+    let same : length c.multiply_by_x.new.block ≡ length c.args.b.now
+    = ap length c.multiply_by_x.ensures
     ∙ length_times_x (on_bytes (g.F.Field.meaning c.args.field.now)) c.args.modulus.now c.loop-i.product (c.loop-i.auto.product ∙ c.fill.ensures.len ∙ c.requires.room)
     ∙ sym c.requires.operand in
     omega (arith, same)
@@ -26,8 +26,8 @@ add-multiple-requires g c =
 pub loop-i-preserved : goal.loop-i-preserved
 loop-i-preserved g c =
     let M = g.F.Field.meaning c.args.field.now in
-    c.add-multiple.ensures
-    ∙ ap (plus (on_bytes M) (scale (on_bytes M) (get_or c.args.a.now (c.loop-i.i - 1) 0) c.args.b.now)) (c.multiply-by-x.ensures ∙ ap (times_x (on_bytes M) c.args.modulus.now) c.loop-i.invariant)
+    c.add_multiple.ensures
+    ∙ ap (plus (on_bytes M) (scale (on_bytes M) (get_or c.args.a.now (c.loop-i.i - 1) 0) c.args.b.now)) (c.multiply_by_x.ensures ∙ ap (times_x (on_bytes M) c.args.modulus.now) c.loop-i.invariant)
     ∙ next_coefficient M c.args.modulus.now c.args.a.now c.args.b.now c.loop-i.i c.loop-i-test.true c.loop-i.auto.i
 
 pub returns : goal.returns

@@ -6,4 +6,4 @@ use Rattle.blocks.proofs.rows.padded.Goals as goal
 pub returns : goal.returns
 returns c =
     let n = length c.args.block.now in
-    ap₂ ◌++◌ c.copy-from-slice.ensures.after (ap (λ k. drop k (replicate 32 0)) (sub-zero n) ∙ drop-replicate n 32 0)
+    ap₂ ◌++◌ c.copy_from_slice.ensures.after (ap (λ k. drop k (replicate 32 0)) (sub-zero n) ∙ drop-replicate n 32 0)

@@ -12,5 +12,5 @@ returns g c =
     let u = c.args.block.now in
     let t = c.args.t in
     let step : c.multiply.new.block ≡ forward_step A t u
-    = c.multiply.ensures ∙ ap (λ z. A.product z u) (c.raise-repeatedly.ensures ∙ ap (iterate A.q_power t) c.copy-from-slice.ensures.after) in
+    = c.multiply.ensures ∙ ap (λ z. A.product z u) (c.raise_repeatedly.ensures ∙ ap (iterate A.q_power t) c.copy_from_slice.ensures.after) in
     record { step = step; power = λ lawful h. step ∙ forward_raises A lawful t u h }

@@ -5,8 +5,8 @@ use Rattle.field.proofs.Factors.{divides_yes, divides_high, divides_rest, found,
 use Rattle.field.proofs.binary.has_factor.Goals as goal
 use Rattle.field.proofs.binary.has_factor.Goals.{else-d-width-eq0-via-then-d-width-eq0+else-remainder-eq0, else-d-width-eq0-via-else-d-width-eq0}
 
-pub overflow-shr-d : goal.overflow-shr-d
-overflow-shr-d c = omega (arith, c.requires.measured, (degree_is c.args.p c.requires.low c.requires.high).at_most)
+pub overflow_shr-d : goal.overflow_shr-d
+overflow_shr-d c = omega (arith, c.requires.measured, (degree_is c.args.p c.requires.low c.requires.high).at_most)
 
 pub returns-then-remainder-eq0 : goal.returns-then-remainder-eq0
 returns-then-remainder-eq0 c =

@@ -4,4 +4,4 @@ use Rattle.field.proofs.binary.select.Goals as goal
 
 pub returns : goal.returns
 returns c =
-    chosen c.args.bit c.args.value c.wrapping-neg.result c.requires (omega arith) (omega arith) c.wrapping-neg.ensures
+    chosen c.args.bit c.args.value c.wrapping_neg.result c.requires (omega arith) (omega arith) c.wrapping_neg.ensures

@@ -9,19 +9,19 @@ whole word text rest n e r = e ∙ ap (λ z. word ++ z) (sym r)
 pub returns-in-Some : goal.returns-in-Some
 returns-in-Some c =
     let k = c.in-Some.ensures.cases in
-    subst (λ t. MatchResult c.table-layer.result (Says t) (Faulty t))
-    (sym (whole (codes "table ") c.args.text.now c.in-Some.rest.now k.0 k.1.1 k.2)) c.table-layer.ensures
+    subst (λ t. MatchResult c.table_layer.result (Says t) (Faulty t))
+    (sym (whole (codes "table ") c.args.text.now c.in-Some.rest.now k.0 k.1.1 k.2)) c.table_layer.ensures
 
-pub returns-in-Some-strip-prefix : goal.returns-in-Some-strip-prefix
-returns-in-Some-strip-prefix c =
-    let k = c.in-Some-strip-prefix.ensures.cases in
-    subst (λ t. MatchResult c.tower-layer.result (Says t) (Faulty t))
-    (sym (whole (codes "tower ") c.args.text.now c.in-Some-strip-prefix.rest.now k.0 k.1.1 k.2)) c.tower-layer.ensures
+pub returns-in-Some-strip_prefix : goal.returns-in-Some-strip_prefix
+returns-in-Some-strip_prefix c =
+    let k = c.in-Some-strip_prefix.ensures.cases in
+    subst (λ t. MatchResult c.tower_layer.result (Says t) (Faulty t))
+    (sym (whole (codes "tower ") c.args.text.now c.in-Some-strip_prefix.rest.now k.0 k.1.1 k.2)) c.tower_layer.ensures
 
 pub returns-in-None : goal.returns-in-None
 returns-in-None c =
-    let k = c.in-Some-strip-prefix-2.ensures.cases in (
-      c.in-Some-strip-prefix-2.rest.now,
-      whole (codes "shift ") c.args.text.now c.in-Some-strip-prefix-2.rest.now k.0 k.1.1 k.2,
+    let k = c.in-Some-strip_prefix-2.ensures.cases in (
+      c.in-Some-strip_prefix-2.rest.now,
+      whole (codes "shift ") c.args.text.now c.in-Some-strip_prefix-2.rest.now k.0 k.1.1 k.2,
       c.in-None.ensures,
     )

@@ -25,22 +25,22 @@ returns-in-Table t c =
       omega arith,
     )
 
-pub returns-in-Ok-named-within : goal.returns-in-Ok-named-within
-returns-in-Ok-named-within t c =
+pub returns-in-Ok-named_within : goal.returns-in-Ok-named_within
+returns-in-Ok-named_within t c =
     let text = c.args.text.now in
-    let named = c.in-Ok-named-within.ensures in (
+    let named = c.in-Ok-named_within.ensures in (
       subst (Names text) (sym c.raised.ensures.meaning)
-          (of_tower text c.in-Tower.below.now c.in-Tower.c (storey c.in-Ok-named-within.field) (subst (Says text) c.in-Tower.is c.in-Ok.ensures) named.0),
+          (of_tower text c.in-Tower.below.now c.in-Tower.c (storey c.in-Ok-named_within.field) (subst (Says text) c.in-Tower.is c.in-Ok.ensures) named.0),
       omega (arith, c.raised.ensures.height, named.1, c.if-room-eq0.false),
     )
 
-pub returns-in-Err-named-within : goal.returns-in-Err-named-within
-returns-in-Err-named-within t c =
+pub returns-in-Err-named_within : goal.returns-in-Err-named_within
+returns-in-Err-named_within t c =
     let text = c.args.text.now in
-    let why = c.in-Err-named-within.why in
+    let why = c.in-Err-named_within.why in
     let room : suc (c.args.room - 1) ≡ c.args.room = omega (arith, c.if-room-eq0.false) in
     subst (λ n. Misnames n text why) room
-    (in_below (c.args.room - 1) text c.in-Tower.below.now c.in-Tower.c why (subst (Says text) c.in-Tower.is c.in-Ok.ensures) c.in-Err-named-within.ensures)
+    (in_below (c.args.room - 1) text c.in-Tower.below.now c.in-Tower.c why (subst (Says text) c.in-Tower.is c.in-Ok.ensures) c.in-Err-named_within.ensures)
 
 pub returns-in-Err : goal.returns-in-Err
 returns-in-Err t c = at_once c.args.room c.args.text.now c.in-Err.why c.in-Err.ensures

@@ -1,4 +1,4 @@
 use Rattle.named.proofs.name.+named_within.Given as goal
 
-abbrev pub decreases-named-within : goal.decreases-named-within
-decreases-named-within l = l.room
+abbrev pub decreases-named_within : goal.decreases-named_within
+decreases-named_within l = l.room

@@ -8,12 +8,12 @@ pub loop-a-init : goal.loop-a-init
 unfolding largest_below
 loop-a-init g c = refl
 
-pub overflow-cast-a : goal.overflow-cast-a
-overflow-cast-a g c =
+pub overflow_cast-a : goal.overflow_cast-a
+overflow_cast-a g c =
     let x = c.args.field.now in
     record {
       fits = code_byte (g.F.Field.meaning x) (g.met.F.Field.shape x) c.loop-a.a
-          (subst (λ n. c.loop-a.a < n) c.number-of-codes-a-end.ensures c.loop-a-test.true);
+          (subst (λ n. c.loop-a.a < n) c.number_of_codes-a-end.ensures c.loop-a-test.true);
     }
 
 pub loop-a-preserved : goal.loop-a-preserved
@@ -24,5 +24,5 @@ loop-a-preserved g c =
 pub returns : goal.returns
 unfolding longest_period
 returns g c =
-    let done : c.loop-a.a ≡ c.number-of-codes-a-end.result = omega (arith, c.loop-a.auto.a-end, c.loop-a-test.false) in
-    c.loop-a.invariant ∙ ap (λ n. largest_below n (period (g.F.Field.meaning c.args.field.now))) (done ∙ c.number-of-codes-a-end.ensures)
+    let done : c.loop-a.a ≡ c.number_of_codes-a-end.result = omega (arith, c.loop-a.auto.a-end, c.loop-a-test.false) in
+    c.loop-a.invariant ∙ ap (λ n. largest_below n (period (g.F.Field.meaning c.args.field.now))) (done ∙ c.number_of_codes-a-end.ensures)

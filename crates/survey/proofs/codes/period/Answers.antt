@@ -25,7 +25,7 @@ returns-then-x-one g c =
     let inv = c.loop-e.invariant in
     let is = power_more M a c.loop-e.x e c.product-x.result c.requires inv.1 c.loop-e.auto.e inv.0 c.product-x.ensures in
     let test : ℕ → Bool = λ k. eqb (power (operations M) a k) M.one in
-    let within : e ≤ 2 ^ M.width = omega (arith, c.loop-e-test.true, c.number-of-codes-e-end.ensures) in
+    let within : e ≤ 2 ^ M.width = omega (arith, c.loop-e-test.true, c.number_of_codes-e-end.ensures) in
     let first : first_from 1 (2 ^ M.width) test ≡ e
     = first_found test (2 ^ M.width) 1 e c.loop-e.auto.e (omega arith) inv.2
     (eq-eqb (power (operations M) a e) M.one (sym is ∙ c.if-x-one.true ∙ c.one-one.ensures)) in
@@ -55,5 +55,5 @@ returns g c =
     let n = 2 ^ M.width in
     let test : ℕ → Bool = λ k. eqb (power (operations M) c.args.a k) M.one in
     let none : first_from 1 n test ≡ 1 + n
-    = first_none test n 1 (λ k lo hi. c.loop-e.invariant.2 k lo (omega (arith, c.loop-e-test.false, c.number-of-codes-e-end.ensures))) in
+    = first_none test n 1 (λ k lo hi. c.loop-e.invariant.2 k lo (omega (arith, c.loop-e-test.false, c.number_of_codes-e-end.ensures))) in
     sym (ap (λ k. cond (leb k n) k 0) none ∙ cond-false (leb (1 + n) n) (1 + n) 0 (lt-leb (1 + n) n (omega arith)))

@@ -22,8 +22,8 @@ returns-then-sound g c =
     let x = c.args.field.now in
     let M = g.F.Field.meaning x in
     record {
-      value = same M c.width-width.result c.one-one.result (checked c.invertible.result c.longest-period.result)
+      value = same M c.width-width.result c.one-one.result (checked c.invertible.result c.longest_period.result)
           c.width-width.ensures c.one-one.ensures
-          (ap₂ checked c.invertible.ensures c.longest-period.ensures ∙ ap (λ b. checked_if b M) c.if-sound.ensures);
+          (ap₂ checked c.invertible.ensures c.longest_period.ensures ∙ ap (λ b. checked_if b M) c.if-sound.ensures);
       inverses = λ sound. all_invertible M (g.met.F.Field.shape x) (g.met.F.Field.laws x sound);
     }

@@ -10,5 +10,5 @@ returns g c =
     let M = g.F.Field.meaning c.args.field.now in
     let p = c.args.self.now in
     let x = c.args.block.now in
-    c.add-combination.ensures
-    ∙ ap (λ z. combination (on_bytes M) z p.rows x) (c.copy-from-slice.ensures.after ∙ ap (λ n. take n p.constants) (sub-zero p.size)) ∙ image_by_rooms M p x c.requires.block
+    c.add_combination.ensures
+    ∙ ap (λ z. combination (on_bytes M) z p.rows x) (c.copy_from_slice.ensures.after ∙ ap (λ n. take n p.constants) (sub-zero p.size)) ∙ image_by_rooms M p x c.requires.block

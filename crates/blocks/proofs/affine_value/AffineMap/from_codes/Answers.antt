@@ -21,16 +21,16 @@ begins n codes rows h =
 pub loop-i-init : goal.loop-i-init
 loop-i-init c = (begins c.args.size c.args.codes.now _ c.requires.codes, refl)
 
-pub slice-bounds-padded-end : goal.slice-bounds-padded-end
-slice-bounds-padded-end c =
+pub slice_bounds-padded-end : goal.slice_bounds-padded-end
+slice_bounds-padded-end c =
     let h : c.args.size ≤ length c.loop-i.rest.now = row_left c.args.size c.loop-i.i c.loop-i.rest.now c.loop-i-test.true c.loop-i.invariant.0.left in
     search rules
 
-pub slice-bounds-rest-count-in-loop-i : goal.slice-bounds-rest-count-in-loop-i
-slice-bounds-rest-count-in-loop-i c = row_left c.args.size c.loop-i.i c.loop-i.rest.now c.loop-i-test.true c.loop-i.invariant.0.left
+pub slice_bounds-rest-count-in-loop-i : goal.slice_bounds-rest-count-in-loop-i
+slice_bounds-rest-count-in-loop-i c = row_left c.args.size c.loop-i.i c.loop-i.rest.now c.loop-i-test.true c.loop-i.invariant.0.left
 
-pub slice-bounds-rest-start-in-loop-i : goal.slice-bounds-rest-start-in-loop-i
-slice-bounds-rest-start-in-loop-i c =
+pub slice_bounds-rest-start-in-loop-i : goal.slice_bounds-rest-start-in-loop-i
+slice_bounds-rest-start-in-loop-i c =
     let h : c.args.size ≤ length c.loop-i.rest.now = row_left c.args.size c.loop-i.i c.loop-i.rest.now c.loop-i-test.true c.loop-i.invariant.0.left in
     search rules
 

@@ -20,12 +20,12 @@ returns g c =
     let rows = c.in-ok-rows.rows in
     let k = constants_of p in
     let O = on_bytes M in
-    let moved : c.add-combination.new.sum ≡ combination O (zeros O n) (map (take n) (take n rows)) k
-    = c.add-combination.ensures
+    let moved : c.add_combination.new.sum ≡ combination O (zeros O n) (map (take n) (take n rows)) k
+    = c.add_combination.ensures
     ∙ ap₂ (λ (z : List ℕ) (m : ℕ). combination O z rows (take m p.constants)) (fresh M n p.few) (sub-zero n)
     ∙ sym (rows_cut O n n (zeros O n) rows k (subst (λ m. m ≤ n) (sym (length_zeros O n)) (le_refl n)) (subst (λ m. m ≤ n) (sym (constants_size p)) (le_refl n))) in
-    let size : length c.add-combination.new.sum ≡ n = c.add-combination.auto.sum ∙ ap length (fresh M n p.few) ∙ length_zeros O n in
-    let constants = ap (take n) c.padded.ensures ∙ take_at c.add-combination.new.sum (replicate (32 - length c.add-combination.new.sum) 0) n size ∙ moved in
+    let size : length c.add_combination.new.sum ≡ n = c.add_combination.auto.sum ∙ ap length (fresh M n p.few) ∙ length_zeros O n in
+    let constants = ap (take n) c.padded.ensures ∙ take_at c.add_combination.new.sum (replicate (32 - length c.add_combination.new.sum) 0) n size ∙ moved in
     record {
       size = refl;
       verdict = λ sound codes. found M (g.met.F.Field.shape x) p _ (map (take n) (take n rows)) codes refl refl constants

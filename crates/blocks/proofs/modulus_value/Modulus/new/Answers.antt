@@ -13,7 +13,7 @@ returns g c =
     let f = c.args.low.now in
     let n = length f in
     let low : take n c.padded.result ≡ f = ap (take n) c.padded.ensures ∙ take_at f (replicate (32 - n) 0) n refl in
-    let rows = c.write-rows.ensures.rows in
+    let rows = c.write_rows.ensures.rows in
     record {
       coefficients = low;
       rows = rows;

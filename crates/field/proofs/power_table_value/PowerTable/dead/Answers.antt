@@ -7,9 +7,9 @@ use Rattle.algebra.specs.PowerTable.{logarithm, stands, table_by, power_table}
 use Rattle.field.specs.Tables.{kept_log}
 use Rattle.field.proofs.power_table_value.PowerTable.dead.Goals as goal
 
-pub invariant-of-result : goal.invariant-of-result
+pub invariant_of-result : goal.invariant_of-result
 unfolding power_table table_by dead kept_log
-invariant-of-result c =
+invariant_of-result c =
     let p = c.args.number in
     let g = c.args.generator in (
       sym (ap (λ b. (table_by b p g).width) c.requires),

@@ -5,17 +5,17 @@ use Rattle.field.proofs.shift_field.ShiftField.product.Goals as goal
 pub multiply-requires : goal.multiply-requires
 multiply-requires c =
     let s = c.args.self.now in
-    let h = width_range s.number s.modulus s.width s.mask s.kept s.decreases s.masked in
+    let h = width_range s.number s.modulus s.width s.mask s.kept s.measured s.masked in
     record {
       low = h.reaches;
       high = subst (λ n. s.modulus < 2 ^ n) (sym (add-one s.width)) h.stays_below;
       narrow = h.at_most;
       few = omega (arith, h.at_most);
-      code = operand_lt s.number s.modulus s.width s.mask s.kept s.decreases s.masked c.args.b;
+      code = operand_lt s.number s.modulus s.width s.mask s.kept s.measured s.masked c.args.b;
     }
 
-pub overflow-cast-result : goal.overflow-cast-result
-overflow-cast-result c =
+pub overflow_cast-result : goal.overflow_cast-result
+overflow_cast-result c =
     let s = c.args.self.now in
     let h = width_range s.number s.modulus s.width s.mask s.kept s.decreases s.masked in
     let small : 2 ^ s.width ≤ 2 ^ 8 = pow_mono h.at_most in
@@ -28,4 +28,4 @@ pub returns : goal.returns
 returns c =
     let s = c.args.self.now in
     c.multiply.ensures
-    ∙ product_is s.number s.modulus s.width s.mask s.kept s.decreases s.masked c.args.a c.args.b
+    ∙ product_is s.number s.modulus s.width s.mask s.kept s.measured s.masked c.args.a c.args.b

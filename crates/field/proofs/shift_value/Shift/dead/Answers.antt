@@ -3,9 +3,9 @@ use Rattle.algebra.specs.Meaning.{dead}
 use Rattle.algebra.specs.Shift.{highest_bit, degree, shift_by, shift}
 use Rattle.field.proofs.shift_value.Shift.dead.Goals as goal
 
-pub invariant-of-result : goal.invariant-of-result
+pub invariant_of-result : goal.invariant_of-result
 unfolding degree highest_bit shift shift_by dead
-invariant-of-result c =
+invariant_of-result c =
     let p = c.args.number in (
       sym (ap (λ b. cond b p 2) c.requires),
       (refl, (sym (ap (λ b. cond b (2 ^ degree p - 1) 0) c.requires), (sym (ap (λ b. (shift_by b p).sound) c.requires), tt))),

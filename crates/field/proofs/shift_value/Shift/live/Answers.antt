@@ -9,23 +9,23 @@ mask_is p w lo hi is =
     let small : 2 ^ degree p ≤ 2 ^ 8 = pow_mono (degree_is p lo hi).at_most in
     ap (λ n. 1 * 2 ^ n % 2 ^ 32 - 1) is ∙ ap (λ z. z % 2 ^ 32 - 1) (one-mul (2 ^ degree p)) ∙ ap (λ z. z - 1) (mod-eq_of_lt (omega arith))
 
-pub overflow-cast-result : goal.overflow-cast-result
-overflow-cast-result c =
+pub overflow_cast-result : goal.overflow_cast-result
+overflow_cast-result c =
     let p = c.args.number in
     let w = c.ilog2-width.result in
     let is : w ≡ degree p = degree_only p w c.requires.low c.requires.high (omega (arith, c.ilog2-width.ensures.power_le)) (omega (arith, c.ilog2-width.ensures.next-power-gt)) in
     omega (arith, (degree_is p c.requires.low c.requires.high).at_most)
 
-pub overflow-cast-result-2 : goal.overflow-cast-result-2
-overflow-cast-result-2 c =
+pub overflow_cast-result-2 : goal.overflow_cast-result-2
+overflow_cast-result-2 c =
     let p = c.args.number in
     let w = c.ilog2-width.result in
     let is : w ≡ degree p = degree_only p w c.requires.low c.requires.high (omega (arith, c.ilog2-width.ensures.power_le)) (omega (arith, c.ilog2-width.ensures.next-power-gt)) in
     let small : 2 ^ degree p ≤ 2 ^ 8 = pow_mono (degree_is p c.requires.low c.requires.high).at_most in
     record { fits = subst (λ z. z < 2 ^ 8) (sym (mask_is p w c.requires.low c.requires.high is)) (omega arith) }
 
-pub has-factor-requires : goal.has-factor-requires
-has-factor-requires c =
+pub has_factor-requires : goal.has_factor-requires
+has_factor-requires c =
     let p = c.args.number in
     record {
       low = c.requires.low;
@@ -33,9 +33,9 @@ has-factor-requires c =
       measured = degree_only p c.ilog2-width.result c.requires.low c.requires.high (omega (arith, c.ilog2-width.ensures.power_le)) (omega (arith, c.ilog2-width.ensures.next-power-gt));
     }
 
-pub invariant-of-result : goal.invariant-of-result
+pub invariant_of-result : goal.invariant_of-result
 unfolding shift shift_by
-invariant-of-result c =
+invariant_of-result c =
     let p = c.args.number in
     let w = c.ilog2-width.result in
     let is : w ≡ degree p = degree_only p w c.requires.low c.requires.high (omega (arith, c.ilog2-width.ensures.power_le)) (omega (arith, c.ilog2-width.ensures.next-power-gt)) in
@@ -45,7 +45,7 @@ invariant-of-result c =
         is,
         (
           mask_is p w c.requires.low c.requires.high is ∙ sym (ap (λ b. cond b (2 ^ degree p - 1) 0) e),
-          (ap not c.has-factor.ensures ∙ sym (ap (λ b. (shift_by b p).sound) e), tt),
+          (ap not c.has_factor.ensures ∙ sym (ap (λ b. (shift_by b p).sound) e), tt),
         ),
       ),
     )

@@ -20,9 +20,9 @@ returns-then-m-gt-WIDEST g c =
     let M = g.F.Field.meaning t.base in
     sym (ap (λ N. N.product (as_code N c.args.a) (as_code N c.args.b)) (tower_wide M t.c (subst (λ w. 4 < w) c.width-m.ensures c.if-m-gt-WIDEST.true)))
 
-pub product-of-pairs-requires : goal.product-of-pairs-requires
+pub product_of_pairs-requires : goal.product_of_pairs-requires
 unfolding low_bits
-product-of-pairs-requires g c =
+product_of_pairs-requires g c =
     let t = c.args.self.now in
     let M = g.F.Field.meaning t.base in
     let m = c.width-m.result in
@@ -44,7 +44,7 @@ returns g c =
     let is : m ≡ M.width = c.width-m.ensures in
     let narrow : m ≤ 4 = c.if-m-gt-WIDEST.false in
     let mask = 1 * 2 ^ (2 * m) % 2 ^ 32 - 1 in
-    c.product-of-pairs.ensures
+    c.product_of_pairs.ensures
     ∙ ap (λ e. tower_product M e (bit_and c.args.a mask) (bit_and c.args.b mask)) (c.element.ensures ∙ ap (λ w. low_bits w t.c) is)
     ∙ ap₂ (tower_product M (low_bits M.width t.c)) (low M.width m c.args.a is narrow) (low M.width m c.args.b is narrow)
     ∙ sym (ap (λ N. N.product (c.args.a % 2 ^ N.width) (c.args.b % 2 ^ N.width)) (tower_narrow M t.c (subst (λ w. w ≤ 4) is narrow)))

@@ -19,7 +19,7 @@ pub returns-then-sound : goal.returns-then-sound
 returns-then-sound g c =
     let t = c.args.self.now in
     let M = g.F.Field.meaning t.base in
-    ap not (c.has-root.ensures ∙ ap (has_root M) (c.element.ensures ∙ ap (λ w. low_bits w t.c) c.width-m.ensures))
+    ap not (c.has_root.ensures ∙ ap (has_root M) (c.element.ensures ∙ ap (λ w. low_bits w t.c) c.width-m.ensures))
     ∙ ap (λ b. b && not (has_root M (low_bits M.width t.c))) (sym (sym c.sound.ensures ∙ c.if-sound.true))
     ∙ sym (verdict M t.c (subst (λ w. w ≤ 4) c.width-m.ensures c.if-m-gt-WIDEST.false))
 
