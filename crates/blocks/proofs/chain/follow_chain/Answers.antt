@@ -8,7 +8,7 @@ pub loop-i-init : goal.loop-i-init
 loop-i-init g c =
     let A = g.B.BlockArithmetic.arithmetic c.args.blocks.now in
     chain_start A.product (strides A c.args.stride) c.args.block.now c.args.n c.ilog2-i.result c.requires.some c.ilog2-i.ensures.power_le
-    c.ilog2-i.ensures.next-power-gt
+    c.ilog2-i.ensures.next_power_gt
 
 -- the turn at bit i − 1, when what it makes leads where following from bit i did
 after_turn : (P : List ℕ → List ℕ → List ℕ) (raised : ℕ → List ℕ → List ℕ) (u : List ℕ) (n i : ℕ) (x next end : List ℕ) → 0 < i

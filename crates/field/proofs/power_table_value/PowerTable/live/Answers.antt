@@ -18,13 +18,13 @@ invariant_of-result c =
     let right : (a : ℕ) → a ≤ s.mask → get_or c.lowest_places-logs.result a 0 ≡ kept_log p g a
     = λ a h. ⊎_elim (λ (z : a ≡ 0). ap (λ z. get_or c.lowest_places-logs.result z 0) z ∙ logs.zero ∙ kept_zero p g s.mask s.masked c.requires ∙ ap (kept_log p g) (sym z))
     (λ some. logs.lowest a (omega (arith, some)) (omega arith) ∙ kept_lowest p g s.mask s.masked c.requires c.powers_of-powers.result powers.entries a (omega (arith, some)))
-    (cases_eq a 0) in (
-      s.decreases ∙ ap degree (s.kept ∙ ap (λ b. cond b p 2) c.requires) ∙ sym (ap (λ b. (table_by b p g).width) c.requires),
-      (
-        s.masked,
-        (
-          c.all_stand-sound.ensures ∙ verdict p g s.mask s.masked c.requires c.lowest_places-logs.result right ∙ sym (ap (λ b. (table_by b p g).sound) c.requires),
-          (powers.whole, (logs.whole, (powers.entries, (right, tt)))),
-        ),
-      ),
-    )
+    (cases_eq a 0) in
+    record {
+      measured = s.measured ∙ ap degree (s.kept ∙ ap (λ b. cond b p 2) c.requires) ∙ sym (ap (λ b. (table_by b p g).width) c.requires);
+      masked = s.masked;
+      judged = c.all_stand-sound.ensures ∙ verdict p g s.mask s.masked c.requires c.lowest_places-logs.result right ∙ sym (ap (λ b. (table_by b p g).sound) c.requires);
+      places = powers.whole;
+      codes = logs.whole;
+      entries = powers.entries;
+      logarithms = right;
+    }

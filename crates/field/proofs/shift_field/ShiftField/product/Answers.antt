@@ -17,7 +17,7 @@ multiply-requires c =
 pub overflow_cast-result : goal.overflow_cast-result
 overflow_cast-result c =
     let s = c.args.self.now in
-    let h = width_range s.number s.modulus s.width s.mask s.kept s.decreases s.masked in
+    let h = width_range s.number s.modulus s.width s.mask s.kept s.measured s.masked in
     let small : 2 ^ s.width ≤ 2 ^ 8 = pow_mono h.at_most in
     record {
       fits = subst (λ z. z < 2 ^ 8) (sym c.multiply.ensures)

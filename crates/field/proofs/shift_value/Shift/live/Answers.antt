@@ -13,14 +13,14 @@ pub overflow_cast-result : goal.overflow_cast-result
 overflow_cast-result c =
     let p = c.args.number in
     let w = c.ilog2-width.result in
-    let is : w ≡ degree p = degree_only p w c.requires.low c.requires.high (omega (arith, c.ilog2-width.ensures.power_le)) (omega (arith, c.ilog2-width.ensures.next-power-gt)) in
+    let is : w ≡ degree p = degree_only p w c.requires.low c.requires.high (omega (arith, c.ilog2-width.ensures.power_le)) (omega (arith, c.ilog2-width.ensures.next_power_gt)) in
     omega (arith, (degree_is p c.requires.low c.requires.high).at_most)
 
 pub overflow_cast-result-2 : goal.overflow_cast-result-2
 overflow_cast-result-2 c =
     let p = c.args.number in
     let w = c.ilog2-width.result in
-    let is : w ≡ degree p = degree_only p w c.requires.low c.requires.high (omega (arith, c.ilog2-width.ensures.power_le)) (omega (arith, c.ilog2-width.ensures.next-power-gt)) in
+    let is : w ≡ degree p = degree_only p w c.requires.low c.requires.high (omega (arith, c.ilog2-width.ensures.power_le)) (omega (arith, c.ilog2-width.ensures.next_power_gt)) in
     let small : 2 ^ degree p ≤ 2 ^ 8 = pow_mono (degree_is p c.requires.low c.requires.high).at_most in
     record { fits = subst (λ z. z < 2 ^ 8) (sym (mask_is p w c.requires.low c.requires.high is)) (omega arith) }
 
@@ -30,7 +30,7 @@ has_factor-requires c =
     record {
       low = c.requires.low;
       high = c.requires.high;
-      measured = degree_only p c.ilog2-width.result c.requires.low c.requires.high (omega (arith, c.ilog2-width.ensures.power_le)) (omega (arith, c.ilog2-width.ensures.next-power-gt));
+      measured = degree_only p c.ilog2-width.result c.requires.low c.requires.high (omega (arith, c.ilog2-width.ensures.power_le)) (omega (arith, c.ilog2-width.ensures.next_power_gt));
     }
 
 pub invariant_of-result : goal.invariant_of-result
@@ -38,14 +38,11 @@ unfolding shift shift_by
 invariant_of-result c =
     let p = c.args.number in
     let w = c.ilog2-width.result in
-    let is : w ≡ degree p = degree_only p w c.requires.low c.requires.high (omega (arith, c.ilog2-width.ensures.power_le)) (omega (arith, c.ilog2-width.ensures.next-power-gt)) in
-    let e : in_range p ≡ true = inside p c.requires.low c.requires.high in (
-      sym (ap (λ b. cond b p 2) e),
-      (
-        is,
-        (
-          mask_is p w c.requires.low c.requires.high is ∙ sym (ap (λ b. cond b (2 ^ degree p - 1) 0) e),
-          (ap not c.has_factor.ensures ∙ sym (ap (λ b. (shift_by b p).sound) e), tt),
-        ),
-      ),
-    )
+    let is : w ≡ degree p = degree_only p w c.requires.low c.requires.high (omega (arith, c.ilog2-width.ensures.power_le)) (omega (arith, c.ilog2-width.ensures.next_power_gt)) in
+    let e : in_range p ≡ true = inside p c.requires.low c.requires.high in
+    record {
+      kept = sym (ap (λ b. cond b p 2) e);
+      measured = is;
+      masked = mask_is p w c.requires.low c.requires.high is ∙ sym (ap (λ b. cond b (2 ^ degree p - 1) 0) e);
+      judged = ap not c.has_factor.ensures ∙ sym (ap (λ b. (shift_by b p).sound) e);
+    }
