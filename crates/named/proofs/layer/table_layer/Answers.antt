@@ -3,8 +3,8 @@ use Rattle.named.specs.Numbers.{Reads}
 use Rattle.named.proofs.Numerals.{one_rest}
 use Rattle.named.proofs.layer.table_layer.Goals as goal
 
-pub returns-in-default : goal.returns-in-default
-returns-in-default c = (c.args.rest.now, refl, λ p g tail b r. c.in-default.ensures p tail b)
+pub returns-in_default : goal.returns-in_default
+returns-in_default c = (c.args.rest.now, refl, λ p g tail b r. c.in_default.ensures p tail b)
 
 pub returns-in-None : goal.returns-in-None
 returns-in-None c = (

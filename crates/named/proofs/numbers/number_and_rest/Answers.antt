@@ -4,8 +4,8 @@ use Rattle.named.specs.Numbers.{Reads}
 use Rattle.named.proofs.Numerals.{reads_no_space}
 use Rattle.named.proofs.numbers.number_and_rest.Goals as goal
 
-pub returns-in-default : goal.returns-in-default
-returns-in-default c n rest b = split_after 32 c.args.text.now b.0 rest None c.in-default.ensures.cases (lit< tt) b.1 (reads_no_space b.0 n b.2)
+pub returns-in_default : goal.returns-in_default
+returns-in_default c n rest b = split_after 32 c.args.text.now b.0 rest None c.in_default.ensures.cases (lit< tt) b.1 (reads_no_space b.0 n b.2)
 
 pub returns-in-Some-number : goal.returns-in-Some-number
 returns-in-Some-number c =
