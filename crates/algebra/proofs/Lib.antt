@@ -23,6 +23,7 @@ pub mod PowerTable
 pub mod CodeRing
 pub mod Natural
 pub mod Blocks
+pub mod Plain
 pub mod Tower
 pub mod Linear
 pub mod Vectors

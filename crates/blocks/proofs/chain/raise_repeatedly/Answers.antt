@@ -10,4 +10,4 @@ loop-done-init g c = refl
 pub loop-done-preserved : goal.loop-done-preserved
 loop-done-preserved g c =
     let f = (g.B.BlockArithmetic.arithmetic c.args.blocks.now).q_power in
-    c.raise_to_q.ensures ∙ ap f c.loop-done.invariant ∙ iterate_next f c.loop-done.-done c.args.block.now
+    c.raise_to_q.ensures ∙ ap f c.loop-done.invariant ∙ iterate_next f c.loop-done._done c.args.block.now

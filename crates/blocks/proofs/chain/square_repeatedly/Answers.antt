@@ -13,4 +13,4 @@ unfolding squares
 loop-done-preserved g c =
     let P = (g.B.BlockArithmetic.arithmetic c.args.blocks.now).product in
     let f : List ℕ → List ℕ = λ x. P x x in
-    c.square.ensures ∙ ap f c.loop-done.invariant ∙ iterate_next f c.loop-done.-done c.args.block.now
+    c.square.ensures ∙ ap f c.loop-done.invariant ∙ iterate_next f c.loop-done._done c.args.block.now

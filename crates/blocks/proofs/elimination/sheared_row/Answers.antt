@@ -8,4 +8,4 @@ pub returns : goal.returns
 unfolding shear_row on_bytes
 returns g c =
     let O = on_bytes (g.F.Field.meaning c.args.field.now) in
-    c.add_multiple.ensures ∙ ap (λ z. plus O (scale O z c.args.step.now) c.args.row) c.product-multiple.ensures
+    c.add_multiple.ensures.bytes ∙ ap (λ z. plus O (scale O z c.args.step.now) c.args.row) c.product-multiple.ensures

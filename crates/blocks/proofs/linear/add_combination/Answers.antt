@@ -14,7 +14,7 @@ loop-i-preserved g c =
     let rows = c.args.rows.now in
     let x = c.args.factors.now in
     let i = c.loop-i.i in
-    c.add_multiple.ensures ∙ ap (plus O (scale O (get_or x (i - 1) 0) (get_or rows (i - 1) []))) c.loop-i.invariant
+    c.add_multiple.ensures.bytes ∙ ap (plus O (scale O (get_or x (i - 1) 0) (get_or rows (i - 1) []))) c.loop-i.invariant
     ∙ next_row O c.args.sum.now rows x i c.loop-i-test.true c.loop-i.auto.i (omega (arith, c.loop-i.auto.i, c.requires.enough))
 
 pub returns : goal.returns

@@ -1,6 +1,7 @@
 use Rattle.std.proofs.Common.{◌≡◌, ◌-◌, ◌<◌, length, get_or, drop, sym, ap, ◌∙◌, subst, arith}
 use Rattle.algebra.specs.Meaning.{on_bytes}
 use Rattle.algebra.specs.Tuples.{plus, scale, times_x, times}
+use Rattle.algebra.proofs.Plain.{same_times}
 use Rattle.algebra.proofs.Tuples.{length_times_x}
 use Rattle.blocks.proofs.Coefficients.{blank, next_coefficient}
 use Rattle.blocks.proofs.product.multiply.Goals as goal
@@ -18,7 +19,7 @@ multiply_by_x-requires g c =
 pub add_multiple-requires : goal.add_multiple-requires
 add_multiple-requires g c =
     let same : length c.multiply_by_x.new.block ≡ length c.args.b.now
-    = ap length c.multiply_by_x.ensures
+    = ap length c.multiply_by_x.ensures.bytes
     ∙ length_times_x (on_bytes (g.F.Field.meaning c.args.field.now)) c.args.modulus.now c.loop-i.product (c.loop-i.auto.product ∙ c.fill.ensures.len ∙ c.requires.room)
     ∙ sym c.requires.operand in
     omega (arith, same)
@@ -26,12 +27,16 @@ add_multiple-requires g c =
 pub loop-i-preserved : goal.loop-i-preserved
 loop-i-preserved g c =
     let M = g.F.Field.meaning c.args.field.now in
-    c.add_multiple.ensures
-    ∙ ap (plus (on_bytes M) (scale (on_bytes M) (get_or c.args.a.now (c.loop-i.i - 1) 0) c.args.b.now)) (c.multiply_by_x.ensures ∙ ap (times_x (on_bytes M) c.args.modulus.now) c.loop-i.invariant)
+    c.add_multiple.ensures.bytes
+    ∙ ap (plus (on_bytes M) (scale (on_bytes M) (get_or c.args.a.now (c.loop-i.i - 1) 0) c.args.b.now)) (c.multiply_by_x.ensures.bytes ∙ ap (times_x (on_bytes M) c.args.modulus.now) c.loop-i.invariant)
     ∙ next_coefficient M c.args.modulus.now c.args.a.now c.args.b.now c.loop-i.i c.loop-i-test.true c.loop-i.auto.i
 
 pub returns : goal.returns
 returns g c =
     let M = g.F.Field.meaning c.args.field.now in
     let done : c.loop-i.i ≡ 0 = omega (arith, c.loop-i-test.false) in
-    c.loop-i.invariant ∙ ap (λ i. times (on_bytes M) c.args.modulus.now (drop i c.args.a.now) c.args.b.now) done
+    let f = c.args.modulus.now in
+    let a = c.args.a.now in
+    let b = c.args.b.now in
+    let bytes : c.loop-i.product ≡ times (on_bytes M) f a b = c.loop-i.invariant ∙ ap (λ i. times (on_bytes M) f (drop i a) b) done in
+    record { bytes = bytes; codes = λ hf ha hb. bytes ∙ same_times M (g.met.F.Field.shape c.args.field.now) f a b hf ha hb }

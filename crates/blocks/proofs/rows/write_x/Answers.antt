@@ -8,4 +8,4 @@ pub returns : goal.returns
 unfolding variable
 returns g c =
     let O = on_bytes (g.F.Field.meaning c.args.field.now) in
-    c.multiply_by_x.ensures ∙ ap (times_x O c.args.modulus.now) (c.write_one.ensures ∙ ap (unit O) c.requires.same)
+    c.multiply_by_x.ensures.bytes ∙ ap (times_x O c.args.modulus.now) (c.write_one.ensures ∙ ap (unit O) c.requires.same)

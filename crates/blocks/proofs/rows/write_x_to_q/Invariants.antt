@@ -8,4 +8,4 @@ use Rattle.blocks.proofs.rows.write_x_to_q.Given as goal
 abbrev pub invariant-loop-done : goal.invariant-loop-done
 invariant-loop-done g l =
     let O = on_bytes (g.F.Field.meaning l.field) in
-    l.block ≡ iterate (λ x. times O l.modulus x x) l.-done l.initial.block
+    l.block ≡ iterate (λ x. times O l.modulus x x) l._done l.initial.block

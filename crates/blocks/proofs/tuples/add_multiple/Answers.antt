@@ -3,6 +3,7 @@ use lib.Bits.{bit_xor, xor_comm}
 use Rattle.algebra.specs.Meaning.{on_bytes}
 use Rattle.algebra.specs.Tuples.{plus, scale}
 use Rattle.algebra.proofs.Entries.{plus_at, scale_at}
+use Rattle.algebra.proofs.Plain.{same_multiple}
 use Rattle.algebra.proofs.Tuples.{length_cut, length_scale}
 use Rattle.blocks.proofs.Writing.{higher, below_all}
 use Rattle.blocks.proofs.tuples.add_multiple.Goals as goal
@@ -33,5 +34,7 @@ returns g c =
     let block = c.args.block.now in
     let old = c.args.sum.now in
     let new = plus O (scale O c.args.factor block) old in
-    below_all c.loop-i.sum old new c.loop-i.i c.loop-i.invariant c.loop-i-test.false
-    (length_cut O (scale O c.args.factor block) old (subst (λ n. length old ≤ n) (sym (length_scale O c.args.factor block)) c.requires))
+    let bytes : c.loop-i.sum ≡ new
+    = below_all c.loop-i.sum old new c.loop-i.i c.loop-i.invariant c.loop-i-test.false
+    (length_cut O (scale O c.args.factor block) old (subst (λ n. length old ≤ n) (sym (length_scale O c.args.factor block)) c.requires)) in
+    record { bytes = bytes; codes = λ hs hb. bytes ∙ same_multiple (g.F.Field.meaning c.args.field.now) c.args.factor block old hs hb }

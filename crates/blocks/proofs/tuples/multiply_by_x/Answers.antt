@@ -3,6 +3,7 @@ use lib.Bits.{bit_xor, xor_zero_l}
 use Rattle.algebra.specs.Meaning.{on_bytes}
 use Rattle.algebra.specs.Tuples.{times_x}
 use Rattle.algebra.proofs.Entries.{times_x_first, times_x_next}
+use Rattle.algebra.proofs.Plain.{same_times_x}
 use Rattle.algebra.proofs.Tuples.{length_times_x}
 use Rattle.blocks.proofs.Writing.{From, lower, bottom}
 use Rattle.blocks.proofs.tuples.multiply_by_x.Goals as goal
@@ -42,5 +43,7 @@ returns g c =
     = c.product-2.ensures
     ∙ sym (xor_zero_l (O.mul top (get_or f 0 0)))
     ∙ sym (times_x_first O f old 0 c.requires.same c.requires.some) in
-    bottom c.loop-i.block old (times_x O f old) c.loop-i.i c.product-2.result c.loop-i.invariant c.loop-i-test.false c.requires.some value
-    (length_times_x O f old c.requires.same ∙ sym c.requires.same)
+    let bytes
+    = bottom c.loop-i.block old (times_x O f old) c.loop-i.i c.product-2.result c.loop-i.invariant c.loop-i-test.false c.requires.some value
+    (length_times_x O f old c.requires.same ∙ sym c.requires.same) in
+    record { bytes = bytes; codes = λ hb hf. bytes ∙ same_times_x M (g.met.F.Field.shape c.args.field.now) f old hf hb }

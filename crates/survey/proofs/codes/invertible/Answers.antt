@@ -23,8 +23,8 @@ loop-a-preserved g c =
     let a = c.loop-a.a in
     let inv = c.loop-a.invariant in
     elim c.if-has_inverse.branch [
-      | then-has-inverse w ↦ (count_more (has_inverse M) a true c.loop-a.count c.if-has_inverse.count inv.0 w.if-has_inverse.ensures w.count-is, omega (arith, inv.1, w.count-is))
-      | else-has-inverse w ↦ (count_more (has_inverse M) a false c.loop-a.count c.if-has_inverse.count inv.0 w.if-has_inverse.ensures (w.count-is ∙ sym (add-zero c.loop-a.count)), omega (arith, inv.1, w.count-is))
+      | then-has_inverse w ↦ (count_more (has_inverse M) a true c.loop-a.count c.if-has_inverse.count inv.0 w.if-has_inverse.ensures w.count-is, omega (arith, inv.1, w.count-is))
+      | else-has_inverse w ↦ (count_more (has_inverse M) a false c.loop-a.count c.if-has_inverse.count inv.0 w.if-has_inverse.ensures (w.count-is ∙ sym (add-zero c.loop-a.count)), omega (arith, inv.1, w.count-is))
     ]
 
 pub returns : goal.returns

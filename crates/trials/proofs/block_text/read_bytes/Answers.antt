@@ -10,5 +10,5 @@ loop-part-preserved c =
     let inv = c.loop-part.invariant in
     let within : c.loop-part.count < length c.loop-part.room = omega arith in (
       simp length-set (omega arith),
-      part_read c.loop-part.yielded c.in-Some.part c.loop-part.room c.loop-part.count c.in-ok-room.field-0 within inv.1 c.in-ok-room.ensures,
+      part_read c.loop-part.yielded c.in-Some.part c.loop-part.room c.loop-part.count c.in_ok-room.field-0 within inv.1 c.in_ok-room.ensures,
     )

@@ -17,7 +17,7 @@ returns g c =
     let M = g.F.Field.meaning x in
     let p = c.args.self.now in
     let n = p.size in
-    let rows = c.in-ok-rows.rows in
+    let rows = c.in_ok-rows.rows in
     let k = constants_of p in
     let O = on_bytes M in
     let moved : c.add_combination.new.sum ≡ combination O (zeros O n) (map (take n) (take n rows)) k
@@ -29,5 +29,5 @@ returns g c =
     record {
       size = refl;
       verdict = λ sound codes. found M (g.met.F.Field.shape x) p _ (map (take n) (take n rows)) codes refl refl constants
-          (c.in-ok-rows.ensures (g.met.F.Field.laws x sound) codes.rows);
+          (c.in_ok-rows.ensures (g.met.F.Field.laws x sound) codes.rows);
     }
