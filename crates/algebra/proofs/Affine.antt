@@ -1,19 +1,19 @@
 -- Elimination on rows of codes decides whether an affine map is one to one, and finds its inverse.
 -- Assumes nothing.
-use Rattle.std.proofs.Common.{◌≡◌, ℕ, zero, suc, ◌+◌, ◌<◌, ◌≤◌, Bool, true, false, ◌⊎◌, List, [], ◌∷◌, map, length, get_or, sym, refl, ap, ◌∙◌, subst, ap₂, inl, inr, suc-le-suc, le_of_suc-le-suc, not-suc-le-zero, arith}
+use Rattle.std.proofs.Common.{◌≡◌, ℕ, zero, suc, ◌<◌, ◌≤◌, List, [], ◌∷◌, map, length, get_or, sym, refl, ap, ◌∙◌, subst, ap₂, suc-le-suc, arith}
 use lib.ListN
 use lib.ListN.{length-map}
 use Rattle.std.proofs.lemmas.List.{get_or-map}
 use Rattle.algebra.specs.Operations.{Ops, Ring2}
 use Rattle.algebra.specs.Meaning.{Meaning, Shape, Laws, IsCode, on_bytes}
-use Rattle.algebra.specs.Tuples.{plus, scale, zeros}
+use Rattle.algebra.specs.Tuples.{plus, scale}
 use Rattle.algebra.specs.Linear.{combination, shear_row, basis, basis_from}
-use Rattle.algebra.specs.Blocks.{Codes, IsBlock}
+use Rattle.algebra.specs.Blocks.{IsBlock}
 use Rattle.algebra.specs.Affine.{affine, linear, Square, OneToOne, Inverts}
 use Rattle.algebra.proofs.Blocks.{down, lift, down_lift, length_lift, by_tuple}
 use Rattle.algebra.proofs.CodeRing.{Code, same, code_ops, code_ring}
-use Rattle.algebra.proofs.CodeVectors.{block, down_codes, same_vector, block_none, block_add, block_times, block_unit, block_total}
-use Rattle.algebra.proofs.Codes.{own_code, product_of_codes}
+use Rattle.algebra.proofs.CodeVectors.{block, down_codes, same_vector, block_add, block_times, block_unit, block_total}
+use Rattle.algebra.proofs.Codes.{product_of_codes}
 use Rattle.algebra.proofs.Quotient.{Tuple}
 use Rattle.algebra.proofs.Rings.{mul_nil}
 use Rattle.algebra.proofs.Vectors.{none, add, times_by, place, total, total_from, unit_at, units_from, unit_other, add_group, add_none, add_self, total_adds, total_none, total_from_is}

@@ -8,7 +8,7 @@ use lib.Bits.{xor_comm, xor_assoc, xor_self, xor_zero_r}
 use Rattle.algebra.specs.Operations.{Ops, Ring2, power}
 use Rattle.algebra.specs.Meaning.{Meaning, on_bytes}
 use Rattle.algebra.specs.Tuples.{plus, zeros}
-use Rattle.algebra.specs.Blocks.{Codes, IsBlock}
+use Rattle.algebra.specs.Blocks.{Codes}
 use Rattle.algebra.specs.Arithmetic.{Arithmetic, BlockOf, block_operations, Lawful}
 use Rattle.algebra.proofs.Rings.{Sums}
 use Rattle.algebra.proofs.Tuples.{length_zeros, length_plus, sum_comm, sum_assoc, sum_zeros, sum_self}

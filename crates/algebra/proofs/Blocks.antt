@@ -1,6 +1,6 @@
 -- Over a sound field the product of blocks modulo a monic polynomial is bilinear, commutative and associative, and has a unit.
 -- Assumes nothing.
-use Rattle.std.proofs.Common.{◌≡◌, ℕ, zero, suc, ◌<◌, List, [], ◌∷◌, map, length, sym, refl, ap, ◌∙◌, subst, ap₂, suc-le-suc, arith, pow_pos}
+use Rattle.std.proofs.Common.{◌≡◌, ℕ, suc, List, [], ◌∷◌, map, length, sym, refl, ap, ◌∙◌, subst, ap₂, suc-le-suc, arith, pow_pos}
 use lib.Bits.{xor_lt}
 use Rattle.algebra.specs.Blocks.{Codes, IsBlock, ByteProduct, ModularByteProducts}
 use Rattle.algebra.specs.Meaning.{Meaning, Shape, Laws, IsCode, as_code, on_bytes}

@@ -1,6 +1,6 @@
 -- A chain to n makes the product of n terms.
 -- Assumes nothing.
-use Rattle.std.proofs.Common.{◌≡◌, ℕ, zero, suc, ◌+◌, ◌*◌, ◌/◌, ◌%◌, ◌^◌, ◌<◌, ◌≤◌, Bool, true, false, eqb, List, [], ◌∷◌, sym, refl, ap, ◌∙◌, ap₂, add-zero, add-suc, mod-lt, one-mul, pow-suc, mul-zero, zero-add, mul-one, suc-ne-zero, div-one, two-mul, add-one as add-one-is, arith, pow_pos, pow-add}
+use Rattle.std.proofs.Common.{◌≡◌, ℕ, zero, suc, ◌+◌, ◌*◌, ◌/◌, ◌%◌, ◌^◌, ◌<◌, ◌≤◌, Bool, true, false, eqb, List, [], ◌∷◌, sym, refl, ap, ◌∙◌, add-zero, add-suc, mod-lt, one-mul, pow-suc, mul-zero, zero-add, suc-ne-zero, div-one, two-mul, add-one as add-one-is, arith, pow-add}
 use native.Mathlib.Nat.{pow-zero, mod-add-div, div-div-eq-div-mul, div-eq_of_lt-le}
 use Rattle.std.proofs.lemmas.Bool.{eq-eqb, ne_eqb, eqb-true, eqb-false}
 use Rattle.algebra.specs.Operations.{Ops, Ring2, power}

@@ -1,16 +1,15 @@
 -- Elimination by linear maps of the rows: it ends with an inverse from both sides, or with a tuple that is not zero and is sent to zero.
 -- Assumes nothing.
-use Rattle.std.proofs.Common.{◌≡◌, ℕ, zero, suc, ◌+◌, ◌<◌, ◌≤◌, ◌⊎◌, List, [], ◌∷◌, map, length, get_or, set, sym, refl, ap, ◌∙◌, subst, ap₂, inl, inr, ⊎_elim, suc-le-suc, le_of_suc-le-suc, not-suc-le-zero, add-zero, add-suc, suc-add, zero-add, suc-ne-zero, arith}
-use native.Mathlib.Nat.{suc_inj}
+use Rattle.std.proofs.Common.{◌≡◌, ℕ, zero, suc, ◌+◌, ◌<◌, ◌≤◌, ◌⊎◌, List, [], ◌∷◌, map, length, get_or, set, sym, refl, ap, ◌∙◌, subst, ap₂, inl, inr, ⊎_elim, le_of_suc-le-suc, not-suc-le-zero, add-zero, add-suc, suc-add, zero-add, arith}
 use lib.ListN.{length-map, get_or-eq_default}
 use Rattle.std.proofs.lemmas.Bool.{cases_eq, cases_lt}
 use Rattle.algebra.specs.Operations.{Ops, Ring2}
-use Rattle.algebra.specs.Tuples.{plus, scale, zeros}
+use Rattle.algebra.specs.Tuples.{zeros}
 use Rattle.algebra.specs.Linear.{basis}
 use Rattle.algebra.proofs.Rings.{nil_add, add_twice, mul_nil, mul_exchange, mul_left_comm, add_mul}
 use Rattle.algebra.proofs.Quotient.{Tuple}
 use Rattle.algebra.proofs.Polynomials.{same_list}
-use Rattle.algebra.proofs.Vectors.{none, add, times_by, place, total, Linear, unit_at, units_from, none_at, unit_same, unit_other, add_at, times_at, add_sym, add_group, add_none, none_add, add_self, add_again, add_swap, times_add, sum_times, times_times_by, one_by, nil_by, total_adds, total_scales, linear_none, linear_total, total_agree, total_units}
+use Rattle.algebra.proofs.Vectors.{none, add, times_by, place, total, Linear, unit_at, units_from, none_at, unit_same, unit_other, add_at, times_at, add_sym, add_none, none_add, add_self, add_again, add_swap, times_add, sum_times, times_times_by, one_by, nil_by, total_adds, total_scales, linear_none, linear_total, total_agree, total_units}
 
 -- the tuple r plus its element at place j, times c, times q
 unfoldable pub shear : {A : Type 0} (O : Ops A) (v : ℕ) → A → ℕ → Tuple A v → Tuple A v → Tuple A v

@@ -1,6 +1,6 @@
 -- Combinations of rows that are longer than the tuple they are added to.
 -- Assumes nothing.
-use Rattle.std.proofs.Common.{◌≡◌, ℕ, zero, suc, ◌≤◌, List, [], ◌∷◌, map, length, take, sym, refl, ap, ◌∙◌, ap₂, suc-le-suc, zero-le, le_trans, le_refl, le_of_suc-le-suc, not-suc-le-zero}
+use Rattle.std.proofs.Common.{◌≡◌, ℕ, zero, suc, ◌≤◌, List, [], ◌∷◌, map, length, take, sym, refl, ap, ◌∙◌, suc-le-suc, zero-le, le_trans, le_refl, le_of_suc-le-suc, not-suc-le-zero}
 use Rattle.algebra.specs.Operations.{Ops}
 use Rattle.algebra.specs.Tuples.{plus, scale}
 use Rattle.algebra.specs.Linear.{combination}

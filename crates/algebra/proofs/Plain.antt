@@ -1,8 +1,8 @@
 -- On codes, a field's operations on codes and those on bytes make the same tuples.
 -- Assumes nothing.
-use Rattle.std.proofs.Common.{◌≡◌, ℕ, zero, suc, List, [], ◌∷◌, map, length, sym, refl, ap, ◌∙◌, subst, ap₂, suc-le-suc, arith}
+use Rattle.std.proofs.Common.{◌≡◌, ℕ, zero, suc, List, [], ◌∷◌, sym, refl, ap, ◌∙◌, subst, ap₂, suc-le-suc, arith}
 use lib.Bits.{bit_xor}
-use Rattle.algebra.specs.Blocks.{Codes, IsBlock, BlockProduct, ByteProduct, ModularProducts}
+use Rattle.algebra.specs.Blocks.{Codes, IsBlock, ByteProduct, ModularProducts}
 use Rattle.algebra.specs.Meaning.{Meaning, Shape, Laws, IsCode, operations, on_bytes}
 use Rattle.algebra.specs.Tuples.{plus, scale, zeros, unit, times_x, times}
 use Rattle.algebra.proofs.Blocks.{down, lift, down_lift, carries, keeps_codes, modular_byte_products}

@@ -1,12 +1,12 @@
 -- Over a field that keeps the laws, the product of blocks is the remainder of the plain product.
 -- Assumes nothing.
-use Rattle.std.proofs.Common.{◌≡◌, ℕ, List, map, length, sym, ap, ◌∙◌, subst, ap₂}
-use lib.ListN.{length-map, get_or-map}
+use Rattle.std.proofs.Common.{◌≡◌, ℕ, List, length, sym, ap, ◌∙◌, subst}
+use lib.ListN.{get_or-map}
 use Rattle.algebra.specs.Operations.{Ops}
 use Rattle.algebra.specs.Meaning.{Meaning, Shape, Laws, on_bytes}
 use Rattle.algebra.specs.Tuples.{times}
 use Rattle.algebra.specs.Polynomials.{coefficient, Same, poly_sum, poly_product, monic, Congruent}
-use Rattle.algebra.specs.Blocks.{Codes, IsBlock, BlockCongruent, BlockRemainders}
+use Rattle.algebra.specs.Blocks.{BlockCongruent, BlockRemainders}
 use Rattle.algebra.proofs.Blocks.{down, lift, down_lift, by_tuple, carries}
 use Rattle.algebra.proofs.CodeRing.{Code, same, code_ops, code_ring}
 use Rattle.algebra.proofs.CodeVectors.{same_codes, down_codes}

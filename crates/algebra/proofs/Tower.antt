@@ -1,6 +1,6 @@
 -- The tower on a sound field by an element with no root keeps the laws; on any field its answers are of the right shape.
 -- Assumes nothing.
-use Rattle.std.proofs.Common.{◌≡◌, ℕ, zero, ◌+◌, ◌*◌, ◌/◌, ◌%◌, ◌^◌, ◌<◌, ◌≤◌, Bool, true, false, not, eqb, leb, ◌⊎◌, List, [], ◌∷◌, length, get_or, sym, refl, ap, ◌∙◌, subst, ap₂, inl, inr, ⊎_elim, le_trans, mod-lt, mod-eq_of_lt, mul_comm, add_comm, suc-ne-zero, two-mul, arith, pow_pos, pow_mono, pow-add, shr_lt}
+use Rattle.std.proofs.Common.{◌≡◌, ℕ, ◌+◌, ◌*◌, ◌/◌, ◌%◌, ◌^◌, ◌<◌, ◌≤◌, Bool, true, false, not, eqb, leb, ◌⊎◌, List, [], ◌∷◌, length, get_or, sym, refl, ap, ◌∙◌, subst, ap₂, inl, inr, ⊎_elim, le_trans, mod-lt, mod-eq_of_lt, suc-ne-zero, two-mul, arith, pow_pos, pow_mono, pow-add, shr_lt}
 use native.Mathlib.Nat.{suc_inj}
 use lib.Bits.{bit_xor, xor_lt, xor_shr, xor_mod}
 use lib.Arith.{digits_lt}

@@ -1,7 +1,7 @@
 -- Polynomials over any carrier, their sum and their plain product, and what it is to differ by a multiple of another.
 use Rattle.std.specs.Prelude.{◌≡◌, ℕ, List, [], ◌∷◌, ◌++◌, slice_index_or}
 use Rattle.algebra.specs.Operations.{Ops}
-use Rattle.algebra.specs.Tuples.{scale, times}
+use Rattle.algebra.specs.Tuples.{scale}
 
 module _ {A : Type 0} (O : Ops A) where
   -- the coefficient of X^i: a polynomial is the list of its coefficients, the lowest first, and zero past its end

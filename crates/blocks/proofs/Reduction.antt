@@ -1,6 +1,6 @@
 -- One row of elimination on rows in their rooms, as a step on rows of codes.
 -- Assumes nothing.
-use Rattle.std.proofs.Common.{◌≡◌, ℕ, zero, suc, ◌+◌, ◌-◌, ◌^◌, ◌<◌, ◌≤◌, Bool, true, false, cond, not, eqb, ltb, ◌⊎◌, List, [], ◌∷◌, map, length, get_or, take, set, sym, refl, ap, ◌∙◌, subst, ap₂, inl, inr, ⊎_elim, le_of_suc-le-suc, not-suc-le-zero, eq-or-lt_of_le, zero-add, suc-ne-zero, arith, length-set, length-take, get_or-take, get_or-set_same, pow_pos}
+use Rattle.std.proofs.Common.{◌≡◌, ℕ, zero, suc, ◌+◌, ◌-◌, ◌^◌, ◌<◌, ◌≤◌, Bool, true, false, cond, not, eqb, List, [], ◌∷◌, map, length, get_or, take, set, sym, refl, ap, ◌∙◌, subst, ap₂, ⊎_elim, le_of_suc-le-suc, not-suc-le-zero, suc-ne-zero, arith, length-set, length-take, get_or-take, get_or-set_same, pow_pos}
 use native.Mathlib.Nat.{suc_inj}
 use lib.Bits.{bit_xor, xor_zero_r}
 use lib.ListN.{length-map}

@@ -1,7 +1,7 @@
 -- Pairs of codes in one byte, and what a tower is on a narrow and on a wide field.
 -- Assumes nothing.
-use Rattle.std.proofs.Common.{◌≡◌, ℕ, ◌+◌, ◌-◌, ◌*◌, ◌/◌, ◌%◌, ◌^◌, ◌<◌, ◌≤◌, true, ap, ◌∙◌, ap₂, mod-lt, mod-eq_of_lt, one-mul, arith, pow_pos, pow_mono, shl_lt}
-use lib.Bits.{bit_and, bit_or, bit_xor, and_mask, or_shifted_r, xor_lt}
+use Rattle.std.proofs.Common.{◌≡◌, ℕ, ◌+◌, ◌-◌, ◌*◌, ◌/◌, ◌%◌, ◌^◌, ◌<◌, ◌≤◌, true, ap, ◌∙◌, ap₂, mod-lt, mod-eq_of_lt, arith, pow_pos, pow_mono, shl_lt}
+use lib.Bits.{bit_and, bit_or, bit_xor, or_shifted_r, xor_lt}
 use Rattle.std.proofs.lemmas.Bool.{le-leb, lt-leb}
 use Rattle.algebra.specs.Meaning.{Meaning, Shape, IsCode, as_code, dead}
 use Rattle.algebra.specs.Tower.{pair, tower_product, tower_by, tower}

@@ -1,6 +1,6 @@
 -- A text of bytes, parted by commas, part by part.
 -- Assumes nothing.
-use Rattle.std.proofs.Common.{◌≡◌, ℕ, ◌+◌, ◌<◌, List, [], ◌∷◌, ◌++◌, map, length, take, set, sym, subst, Bor}
+use Rattle.std.proofs.Common.{ℕ, ◌+◌, ◌<◌, List, [], ◌∷◌, ◌++◌, map, length, take, set, sym, subst, Bor}
 use Rattle.std.proofs.lemmas.List.{map-append, take_more_set}
 use Rattle.trials.specs.BlockText.{ReadsByte, ReadsEach}
 

@@ -1,4 +1,4 @@
-use Rattle.std.proofs.Common.{◌≡◌, ◌*◌, ◌%◌, sym, ap, ◌∙◌}
+use Rattle.std.proofs.Common.{◌*◌, ◌%◌, sym, ap, ◌∙◌}
 use Rattle.algebra.specs.BlockSteps.{q_powers}
 use Rattle.algebra.specs.Iteration.{iterate}
 use Rattle.algebra.proofs.Exponent.{both_residues}

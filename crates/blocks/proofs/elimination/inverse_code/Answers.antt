@@ -1,7 +1,7 @@
-use Rattle.std.proofs.Common.{◌≡◌, ℕ, ◌-◌, ◌*◌, ◌%◌, ◌^◌, ◌≤◌, Bool, true, eqb, sym, ap, ◌∙◌, subst, ap₂, mod-eq_of_lt, one-mul, zero-add, arith, pow_pos, pow_mono}
+use Rattle.std.proofs.Common.{◌≡◌, ℕ, ◌-◌, ◌*◌, ◌%◌, ◌^◌, ◌≤◌, eqb, sym, ap, ◌∙◌, subst, ap₂, mod-eq_of_lt, one-mul, zero-add, arith, pow_mono}
 use Rattle.std.proofs.lemmas.Bool.{eq-eqb, ne_eqb}
-use Rattle.algebra.specs.Meaning.{Meaning, on_bytes}
-use Rattle.algebra.proofs.Search.{Fails, first_found, first_none, fails_more}
+use Rattle.algebra.specs.Meaning.{on_bytes}
+use Rattle.algebra.proofs.Search.{first_found, first_none, fails_more}
 use Rattle.blocks.proofs.elimination.inverse_code.Goals as goal
 
 -- the last code, as the code works it out

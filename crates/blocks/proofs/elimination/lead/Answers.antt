@@ -1,4 +1,4 @@
-use Rattle.std.proofs.Common.{◌≡◌, ℕ, Bool, true, false, cond, eqb, List, [], ◌∷◌, map, set, replicate, sym, refl, ap, ◌∙◌, ap₂}
+use Rattle.std.proofs.Common.{◌≡◌, ℕ, Bool, cond, List, [], ◌∷◌, map, set, replicate, sym, refl, ap, ◌∙◌, ap₂}
 use Rattle.std.proofs.lemmas.Bool.{eq-eqb, ne_eqb}
 use Rattle.algebra.specs.Linear.{basis, shear_row}
 use Rattle.algebra.specs.Meaning.{Meaning, on_bytes}

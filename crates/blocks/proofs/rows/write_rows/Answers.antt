@@ -1,4 +1,4 @@
-use Rattle.std.proofs.Common.{◌≡◌, ℕ, ◌<◌, List, map, length, take, sym, ap, ◌∙◌, ap₂, arith}
+use Rattle.std.proofs.Common.{◌≡◌, ℕ, List, map, length, take, sym, ap, ◌∙◌, ap₂, arith}
 use Rattle.algebra.specs.Meaning.{on_bytes}
 use Rattle.algebra.specs.Modular.{multiples, q_rows}
 use Rattle.algebra.specs.Tuples.{unit, times}

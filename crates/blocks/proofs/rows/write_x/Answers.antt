@@ -1,4 +1,4 @@
-use Rattle.std.proofs.Common.{length, ap, ◌∙◌}
+use Rattle.std.proofs.Common.{ap, ◌∙◌}
 use Rattle.algebra.specs.Meaning.{on_bytes}
 use Rattle.algebra.specs.Modular.{variable}
 use Rattle.algebra.specs.Tuples.{unit, times_x}

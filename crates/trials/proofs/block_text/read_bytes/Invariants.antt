@@ -1,4 +1,4 @@
-use Rattle.std.proofs.Common.{◌≡◌, ◌≤◌, map, length, take}
+use Rattle.std.proofs.Common.{◌≤◌, map, length, take}
 use Rattle.trials.specs.BlockText.{ReadsEach}
 use Rattle.trials.proofs.block_text.read_bytes.Given as goal
 

@@ -1,8 +1,8 @@
-use Rattle.std.proofs.Common.{◌-◌, ◌≤◌, length, take, sym, ap, ◌∙◌}
+use Rattle.std.proofs.Common.{take, ap, ◌∙◌}
 use native.Mathlib.Nat.{sub-zero}
 use Rattle.algebra.specs.Meaning.{on_bytes}
 use Rattle.algebra.specs.Tuples.{times}
-use Rattle.blocks.proofs.Moduli.{Sizes, sizes}
+use Rattle.blocks.proofs.Moduli.{sizes}
 use Rattle.blocks.proofs.modular.ModularBlockArithmetic.square.Goals as goal
 
 pub square_in_place-requires : goal.square_in_place-requires

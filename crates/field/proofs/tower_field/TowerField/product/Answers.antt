@@ -1,7 +1,7 @@
 use Rattle.std.proofs.Common.{◌≡◌, ℕ, ◌-◌, ◌*◌, ◌%◌, ◌^◌, ◌<◌, ◌≤◌, sym, ap, ◌∙◌, subst, ap₂, mod-lt, arith, pow_pos}
 use lib.Bits.{bit_and}
 use Rattle.algebra.specs.Meaning.{as_code, low_bits, dead}
-use Rattle.algebra.specs.Tower.{tower_product, tower_by, tower}
+use Rattle.algebra.specs.Tower.{tower_product, tower_by}
 use Rattle.algebra.proofs.Masks.{low_is}
 use Rattle.field.proofs.Pairs.{tower_narrow, tower_wide}
 use Rattle.field.proofs.tower_field.TowerField.product.Goals as goal
