@@ -125,7 +125,7 @@ class Tabled:
 
 
 def case_field(text):
-    """The field of a line that the program cases reads: `scaled C E` may stand before its name. No name must be damaged."""
+    """The field of a line that the program trials reads: `scaled C E` may stand before its name. No name must be damaged."""
     if not text.startswith("scaled "):
         return named(text)[0]
     _, factor, one, name = text.split(" ", 3)

@@ -1,4 +1,4 @@
-"""Lines for the program cases: what affine maps on blocks over fields of every make come to."""
+"""Lines for the program trials: what affine maps on blocks over fields of every make come to."""
 import random
 
 import fields

@@ -29,7 +29,7 @@ pub record BlockProduct (M : Meaning) (v : ℕ) (one : List ℕ) (product : List
 abbrev pub ModularProducts : Meaning → Type 0
 ModularProducts M = (v : ℕ) (f : List ℕ) → IsBlock M v f → BlockProduct M v (unit (operations M) v) (times (operations M) f)
 
--- the same with the operations on bytes: what a product on bytes is to keep, and that the product modulo X^v + f does, for every f
+-- the same with the operations on bytes, as a product on bytes is to keep it
 pub record ByteProduct (M : Meaning) (v : ℕ) (one : List ℕ) (product : List ℕ → List ℕ → List ℕ) : Type 0 where
   pub one_block : IsBlock M v one
   pub stays : (a b : List ℕ) → IsBlock M v a → IsBlock M v b → IsBlock M v (product a b)
@@ -41,7 +41,7 @@ pub record ByteProduct (M : Meaning) (v : ℕ) (one : List ℕ) (product : List 
       → product a (scale (on_bytes M) s b) ≡ scale (on_bytes M) s (product a b)
   pub one_times : (a : List ℕ) → IsBlock M v a → product one a ≡ a
 
--- the product modulo X^v + f is one, for every f
+-- the product modulo X^v + f on bytes does so, for every f
 abbrev pub ModularByteProducts : Meaning → Type 0
 ModularByteProducts M = (v : ℕ) (f : List ℕ) → IsBlock M v f → ByteProduct M v (unit (on_bytes M) v) (times (on_bytes M) f)
 

@@ -33,6 +33,7 @@ pub record Inverse (m l v t : ℕ) : Type 0 where
   pub only : (e : ℕ) → e < units m v → Undoes m v t e → e ≡ inverse_exponent m v t
   pub closed : closed_formula m l t % units m v ≡ inverse_exponent m v t
 
+-- so it is for every m of at least 1
 abbrev pub InverseStands : Type 0
 InverseStands = (m l r b : ℕ) → 1 ≤ m → 1 ≤ l → 1 ≤ b → b ≤ l → Inverse m l ((2 * l + 1) * 2 ^ r) (b * 2 ^ r)
 
