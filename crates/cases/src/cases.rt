@@ -1,6 +1,6 @@
 //! One case: a line that says what the library should answer of a field that it names.
 use field::Field;
-use named::field_named;
+use named::Storey;
 
 /// What came of a case.
 #[derive(Clone, Copy)]
@@ -23,8 +23,8 @@ fn holds(line: &str) -> Option<bool> {
         "product" => product_holds(rest),
         "width" => width_holds(rest),
         "one" => one_holds(rest),
-        "sound" => Some(field_named(rest).ok()?.sound()),
-        "unsound" => Some(!field_named(rest).ok()?.sound()),
+        "sound" => Some(field(rest)?.sound()),
+        "unsound" => Some(!field(rest)?.sound()),
         _ => None,
     }
 }
@@ -33,19 +33,23 @@ fn product_holds(text: &str) -> Option<bool> {
     let (a, rest) = text.split_once(' ')?;
     let (b, rest) = rest.split_once(' ')?;
     let (r, name) = rest.split_once(' ')?;
-    Some(field_named(name).ok()?.product(byte(a)?, byte(b)?) == byte(r)?)
+    Some(field(name)?.product(byte(a)?, byte(b)?) == byte(r)?)
 }
 
 fn width_holds(text: &str) -> Option<bool> {
     let (width, name) = text.split_once(' ')?;
-    Some(field_named(name).ok()?.width() == byte(width)?)
+    Some(field(name)?.width() == byte(width)?)
 }
 
 fn one_holds(text: &str) -> Option<bool> {
     let (one, name) = text.split_once(' ')?;
-    Some(field_named(name).ok()?.one() == byte(one)?)
+    Some(field(name)?.one() == byte(one)?)
+}
+
+fn field(name: &str) -> Option<Storey> {
+    name.parse().ok()
 }
 
 fn byte(text: &str) -> Option<u8> {
-    text.parse::<u8>().ok()
+    text.parse().ok()
 }

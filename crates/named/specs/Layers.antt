@@ -3,8 +3,8 @@ use Rattle.std.specs.Prelude.{◌≡◌, ℕ, List, ◌++◌, codes}
 use Rattle.named.specs.Numbers.{Reads, Begins}
 use Rattle.named.specs.declared.layer.Layer.{Layer}
 use Rattle.named.specs.declared.layer.Layer.TheVariants.{Shift, Table, Tower}
-use Rattle.named.specs.declared.layer.Misnamed.{Misnamed}
-use Rattle.named.specs.declared.layer.Misnamed.TheVariants.{UnknownMake, ShiftNumber, TableNumbers, TowerNumber, TooManyTowers}
+use Rattle.named.specs.declared.misnamed.Misnamed.{Misnamed}
+use Rattle.named.specs.declared.misnamed.Misnamed.TheVariants.{UnknownMake, ShiftNumber, TableNumbers, TowerNumber, TooManyTowers}
 
 -- the text begins with that word
 abbrev pub After : List ℕ → List ℕ → List ℕ → Type 0

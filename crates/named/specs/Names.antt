@@ -5,8 +5,8 @@ use Rattle.algebra.specs.Shift.{shift}
 use Rattle.algebra.specs.PowerTable.{power_table}
 use Rattle.algebra.specs.Tower.{tower}
 use Rattle.named.specs.declared.layer.Layer.TheVariants.{Shift, Table}
-use Rattle.named.specs.declared.layer.Misnamed.{Misnamed}
-use Rattle.named.specs.declared.layer.Misnamed.TheVariants.{TooManyTowers}
+use Rattle.named.specs.declared.misnamed.Misnamed.{Misnamed}
+use Rattle.named.specs.declared.misnamed.Misnamed.TheVariants.{TooManyTowers}
 use Rattle.named.specs.declared.storey.Storey.{Storey}
 use Rattle.named.specs.declared.storey.Storey.TheVariants.{Zero, One, Two, Three}
 use Rattle.named.specs.Layers.{OnTop, Says, Faulty}

@@ -2,8 +2,8 @@
 ghost use Rattle.std.specs.Prelude.{◌++◌, codes, MatchResult};
 ghost use Rattle.named.specs.Layers.{Says, Faulty};
 
+use crate::misnamed::Misnamed;
 use crate::numbers::{number, number_and_rest};
-use std::fmt;
 
 /// What a name begins with; of a tower's name the rest names the field below.
 #[derive(Clone, Copy)]
@@ -13,49 +13,21 @@ pub enum Layer<'a> {
     Tower(u32, &'a str),
 }
 
-/// Why a text names no field.
-#[derive(Clone, Copy)]
-pub enum Misnamed {
-    UnknownMake,
-    ShiftNumber,
-    TableNumbers,
-    TowerNumber,
-    TooManyTowers,
-}
-
-impl fmt::Display for Misnamed {
-    fn fmt<W: fmt::Write>(&self, f: &mut fmt::Formatter<W>) -> fmt::Result {
-        match self {
-            Misnamed::UnknownMake => write!(f, "a field is a `shift`, a `table` or a `tower`"),
-            Misnamed::ShiftNumber => write!(f, "`shift` takes a number of 32 bits"),
-            Misnamed::TableNumbers => write!(f, "`table` takes two numbers of 32 bits"),
-            Misnamed::TowerNumber => write!(f, "`tower` takes a number of 32 bits and a field"),
-            Misnamed::TooManyTowers => write!(f, "at most three towers stand on a field"),
-        }
-    }
-}
-
 // The two numbers of a table.
 fn table_layer(rest: &str) -> Result<Layer<'_>, Misnamed>
     ensures { MatchResult result (Says (codes "table " ++ rest.now)) (Faulty (codes "table " ++ rest.now)) }
 {
-    let Some((p, tail)) = number_and_rest(rest) else {
-        return Err(Misnamed::TableNumbers);
-    };
-    match number(tail) {
-        Some(g) => Ok(Layer::Table(p, g)),
-        None => Err(Misnamed::TableNumbers),
-    }
+    let (p, tail) = number_and_rest(rest).ok_or(Misnamed::TableNumbers)?;
+    let g = number(tail).ok_or(Misnamed::TableNumbers)?;
+    Ok(Layer::Table(p, g))
 }
 
 // The number of a tower, and the name of the field below.
 fn tower_layer(rest: &str) -> Result<Layer<'_>, Misnamed>
     ensures { MatchResult result (Says (codes "tower " ++ rest.now)) (Faulty (codes "tower " ++ rest.now)) }
 {
-    match number_and_rest(rest) {
-        Some((c, below)) => Ok(Layer::Tower(c, below)),
-        None => Err(Misnamed::TowerNumber),
-    }
+    let (c, below) = number_and_rest(rest).ok_or(Misnamed::TowerNumber)?;
+    Ok(Layer::Tower(c, below))
 }
 
 pub fn read_layer(text: &str) -> Result<Layer<'_>, Misnamed>
@@ -67,11 +39,7 @@ pub fn read_layer(text: &str) -> Result<Layer<'_>, Misnamed>
     if let Some(rest) = text.strip_prefix("tower ") {
         return tower_layer(rest);
     }
-    let Some(rest) = text.strip_prefix("shift ") else {
-        return Err(Misnamed::UnknownMake);
-    };
-    match number(rest) {
-        Some(p) => Ok(Layer::Shift(p)),
-        None => Err(Misnamed::ShiftNumber),
-    }
+    let rest = text.strip_prefix("shift ").ok_or(Misnamed::UnknownMake)?;
+    let p = number(rest).ok_or(Misnamed::ShiftNumber)?;
+    Ok(Layer::Shift(p))
 }

@@ -4,12 +4,12 @@
 mod ground;
 mod ground_field;
 mod layer;
+mod misnamed;
 mod name;
 mod numbers;
 mod storey;
 mod storey_field;
 
 pub use ground::Ground;
-pub use layer::Misnamed;
-pub use name::field_named;
+pub use misnamed::Misnamed;
 pub use storey::Storey;

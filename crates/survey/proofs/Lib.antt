@@ -1,2 +1,3 @@
-mod Searches
+mod AllCodes
+mod Copies
 mod Inverses

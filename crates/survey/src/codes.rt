@@ -1,66 +1,55 @@
 //! What can be found out of a field by going through all its codes.
-ghost use Rattle.std.specs.Prelude.{◌≡◌, ◌^◌, ◌<◌};
+ghost use Rattle.std.specs.Prelude.{◌≡◌, ◌-◌, ◌^◌};
+ghost use Rattle.algebra.specs.Meaning.{as_code};
 ghost use Rattle.survey.specs.Codes.{has_inverse, invertible, period, longest_period};
 
 use field::Field;
 
-// How many codes there are.
-fn number_of_codes<F: Field>(field: &F) -> u16
-    ensures { result ≡ 2 ^ (F.meaning field.now).width }
+// The largest code.
+fn last_code<F: Field>(field: &F) -> u8
+    ensures { result ≡ 2 ^ (F.meaning field.now).width - 1 }
 {
-    1 << field.width()
+    ((1u16 << field.width()) - 1) as u8
 }
 
 // Whether some code times `a` is one.
 fn has_inverse<F: Field>(field: &F, a: u8) -> bool
-    requires { a < 2 ^ (F.meaning field.now).width }
-    ensures { result ≡ has_inverse (F.meaning field.now) a }
+    ensures { result ≡ has_inverse (F.meaning field.now) (as_code (F.meaning field.now) a) }
 {
     let one = field.one();
-    for b in 0..number_of_codes(field) {
-        if field.product(a, b as u8) == one {
-            return true;
-        }
-    }
-    false
+    (0..=last_code(field)).any(|b| field.product(a, b) == one)
 }
 
 // How many codes have an inverse.
 pub fn invertible<F: Field>(field: &F) -> u16
     ensures { result ≡ invertible (F.meaning field.now) }
 {
-    let mut count = 0u16;
-    for a in 0..number_of_codes(field) {
-        if has_inverse(field, a as u8) {
-            count += 1;
-        }
-    }
-    count
+    (0..=last_code(field))
+        .filter(|&a| has_inverse(field, a))
+        .count() as u16
 }
 
-// The smallest number of copies of `a`, from 1 up, whose product is one; 0 if there is none.
-fn period<F: Field>(field: &F, a: u8) -> u16
-    requires { a < 2 ^ (F.meaning field.now).width }
-    ensures { result ≡ period (F.meaning field.now) a }
+// The smallest number of copies of `a`, from 1 up, whose product is one.
+fn period<F: Field>(field: &F, a: u8) -> Option<u16>
+    ensures { result ≡ period (F.meaning field.now) (as_code (F.meaning field.now) a) }
 {
     let one = field.one();
     let mut x = one;
-    for e in 1..number_of_codes(field) + 1 {
+    for e in 1..=u16::from(last_code(field)) + 1 {
         x = field.product(a, x);
         if x == one {
-            return e;
+            return Some(e);
         }
     }
-    0
+    None
 }
 
-// The largest period of a code.
+// The largest period of a code, or 0 if none has one.
 pub fn longest_period<F: Field>(field: &F) -> u16
     ensures { result ≡ longest_period (F.meaning field.now) }
 {
-    let mut longest = 0u16;
-    for a in 0..number_of_codes(field) {
-        longest = longest.max(period(field, a as u8));
-    }
-    longest
+    (0..=last_code(field))
+        .filter_map(|a| period(field, a))
+        .max()
+        .unwrap_or(0)
 }

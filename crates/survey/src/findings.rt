@@ -8,14 +8,14 @@ use field::Field;
 use std::fmt;
 
 /// What came of going through all codes of a sound field.
-#[derive(Clone, Copy)]
+#[derive(Clone, Copy, Debug, PartialEq, Eq)]
 pub struct Checked {
     pub invertible: u16,
     pub longest: u16,
 }
 
 /// A field's width, its one and, if it is sound, what came of going through its codes.
-#[derive(Clone, Copy)]
+#[derive(Clone, Copy, Debug, PartialEq, Eq)]
 pub struct Findings {
     pub width: u8,
     pub one: u8,
@@ -27,37 +27,29 @@ pub fn look_at<F: Field>(field: &F) -> Findings
     ensures value { result ≡ findings (F.meaning field.now) }
     ensures inverses { (F.meaning field.now).sound ≡ true → invertible (F.meaning field.now) ≡ 2 ^ (F.meaning field.now).width - 1 }
 {
-    let width = field.width();
-    let one = field.one();
-    let checked = if field.sound() {
-        Some(Checked {
+    Findings {
+        width: field.width(),
+        one: field.one(),
+        checked: field.sound().then(|| Checked {
             invertible: invertible(field),
             longest: longest_period(field),
-        })
-    } else {
-        None
-    };
-    Findings {
-        width,
-        one,
-        checked,
+        }),
     }
 }
 
 impl fmt::Display for Findings {
     fn fmt<W: fmt::Write>(&self, f: &mut fmt::Formatter<W>) -> fmt::Result {
-        let width = self.width;
-        let one = self.one;
-        write!(f, "width {width}, one {one}, ")?;
+        write!(f, "width {}, one {}, ", self.width, self.one)?;
         match self.checked {
-            Some(checked) => {
-                let inverses = checked.invertible;
-                let period = checked.longest;
-                write!(
-                    f,
-                    "sound, codes with an inverse {inverses}, largest period {period}"
-                )
-            }
+            Some(
+                Checked {
+                    invertible,
+                    longest,
+                },
+            ) => write!(
+                f,
+                "sound, codes with an inverse {invertible}, largest period {longest}"
+            ),
             None => write!(f, "not sound"),
         }
     }

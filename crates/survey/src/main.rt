@@ -5,11 +5,11 @@ mod codes;
 mod findings;
 
 use findings::look_at;
-use named::field_named;
+use named::Storey;
 use std::io;
 
 fn answer(rt: &HostRuntime, line: &str) -> io::Result<()> {
-    match field_named(line) {
+    match line.parse::<Storey>() {
         Ok(field) => {
             let found = look_at(&field);
             println!(rt; "{line}: {found}")

@@ -6,7 +6,7 @@ use crate::map_cases::{map_applies, map_singular, map_solves};
 use crate::scaled_value::Scaled;
 use crate::words::Words;
 use field::Field;
-use named::{Storey, field_named};
+use named::Storey;
 
 /// What came of a case.
 #[derive(Clone, Copy)]
@@ -28,7 +28,7 @@ fn line_holds(line: &str) -> Option<bool> {
     let case = read_case(&mut words)?;
     match words.rest.strip_prefix("scaled ") {
         Some(rest) => case_holds(&scaled_named(rest)?, &case),
-        None => case_holds(&field_named(words.rest).ok()?, &case),
+        None => case_holds(&words.rest.parse::<Storey>().ok()?, &case),
     }
 }
 
@@ -37,7 +37,7 @@ fn scaled_named(text: &str) -> Option<Scaled<Storey>> {
     let mut words = Words { rest: text };
     let factor = words.byte()?;
     let one = words.byte()?;
-    Some(Scaled::new(field_named(words.rest).ok()?, factor, one))
+    Some(Scaled::new(words.rest.parse().ok()?, factor, one))
 }
 
 fn case_holds<F: Field>(field: &F, case: &Case) -> Option<bool> {

@@ -17,11 +17,3 @@ returns-in-Some-strip_prefix c =
     let k = c.in-Some-strip_prefix.ensures.cases in
     subst (λ t. MatchResult c.tower_layer.result (Says t) (Faulty t))
     (sym (whole (codes "tower ") c.args.text.now c.in-Some-strip_prefix.rest.now k.0 k.1.1 k.2)) c.tower_layer.ensures
-
-pub returns-in-None : goal.returns-in-None
-returns-in-None c =
-    let k = c.in-Some-strip_prefix-2.ensures.cases in (
-      c.in-Some-strip_prefix-2.rest.now,
-      whole (codes "shift ") c.args.text.now c.in-Some-strip_prefix-2.rest.now k.0 k.1.1 k.2,
-      c.in-None.ensures,
-    )

@@ -1,28 +1,16 @@
-use Rattle.std.proofs.Common.{◌≡◌, ◌<◌, max, refl, ap, ◌∙◌, subst, arith}
-use Rattle.algebra.proofs.Codes.{code_byte}
-use Rattle.survey.specs.Codes.{largest_below, period, longest_period}
-use Rattle.survey.proofs.Searches.{largest_more}
+use Rattle.std.proofs.Common.{◌∙◌, sym, ap, rules, unwrap_or}
+use Rattle.std.proofs.lemmas.Iterator.Consumers.{YieldsList-at, YieldsList-from_filter_map, max_from_yields_List}
+use Rattle.std.proofs.lemmas.Iterator.Adapters.{option_map_id}
+use Rattle.survey.specs.Codes.{period, longest_period}
+use Rattle.survey.proofs.AllCodes.{all_codes_yield}
 use Rattle.survey.proofs.codes.longest_period.Goals as goal
-
-pub loop-a-init : goal.loop-a-init
-unfolding largest_below
-loop-a-init g c = refl
-
-pub overflow_cast-a : goal.overflow_cast-a
-overflow_cast-a g c =
-    let x = c.args.field.now in
-    record {
-      fits = code_byte (g.F.Field.meaning x) (g.met.F.Field.shape x) c.loop-a.a
-          (subst (λ n. c.loop-a.a < n) c.number_of_codes-a-end.ensures c.loop-a-test.true);
-    }
-
-pub loop-a-preserved : goal.loop-a-preserved
-loop-a-preserved g c =
-    let M = g.F.Field.meaning c.args.field.now in
-    c.max-longest.ensures ∙ ap (max c.loop-a.longest) c.period.ensures ∙ largest_more (period M) c.loop-a.a c.loop-a.longest c.loop-a.invariant
 
 pub returns : goal.returns
 unfolding longest_period
 returns g c =
-    let done : c.loop-a.a ≡ c.number_of_codes-a-end.result = omega (arith, c.loop-a.auto.a-end, c.loop-a-test.false) in
-    c.loop-a.invariant ∙ ap (λ n. largest_below n (period (g.F.Field.meaning c.args.field.now))) (done ∙ c.number_of_codes-a-end.ensures)
+    let M = g.F.Field.meaning c.args.field.now in
+    let largest = max_from_yields_List c.filter_map.result _ c.max.ensures.ran
+    (YieldsList-from_filter_map _ (period M)
+    (YieldsList-at c.filter_map.ensures.source (all_codes_yield M c.new.result c.new.ensures.start (c.new.ensures.end ∙ c.last_code.ensures) c.new.ensures.exhausted))
+    c.filter_map.ensures.closure (λ x r q k. search rules)) in
+    c.unwrap_or.ensures ∙ ap (λ r. unwrap_or r 0) (sym (option_map_id _) ∙ largest)

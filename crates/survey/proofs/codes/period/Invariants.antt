@@ -1,6 +1,6 @@
-use Rattle.std.proofs.Common.{◌≡◌, ◌-◌, ◌^◌, ◌<◌, eqb}
+use Rattle.std.proofs.Common.{◌≡◌, ℕ, ◌-◌, ◌^◌, ◌<◌, eqb}
 use Rattle.algebra.specs.Operations.{power}
-use Rattle.algebra.specs.Meaning.{operations}
+use Rattle.algebra.specs.Meaning.{as_code, operations}
 use Rattle.algebra.proofs.Search.{Fails}
 use Rattle.survey.proofs.codes.period.Given as goal
 
@@ -8,4 +8,5 @@ use Rattle.survey.proofs.codes.period.Given as goal
 abbrev pub invariant-loop-e : goal.invariant-loop-e
 invariant-loop-e g l =
     let M = g.F.Field.meaning l.field in
-    (l.x ≡ power (operations M) l.a (l.e - 1)) × (l.x < 2 ^ M.width) × Fails (λ k. eqb (power (operations M) l.a k) M.one) 1 l.e
+    let copies : ℕ → ℕ = power (operations M) (as_code M l.a) in
+    record { product : l.x ≡ copies (l.e - 1); code : l.x < 2 ^ M.width; none : Fails (λ k. eqb (copies k) M.one) 1 l.e }

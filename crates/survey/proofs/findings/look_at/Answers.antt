@@ -1,29 +1,26 @@
-use Rattle.std.proofs.Common.{◌≡◌, ℕ, Some, Option, ap, ◌∙◌, ap₂}
+use Rattle.std.proofs.Common.{◌≡◌, Bool, true, false, Some, None, Option, IfSome, refl, ◌∙◌, rules}
+use Rattle.std.specs.Option.{is_some}
+use Rattle.std.proofs.lemmas.Option.{IfSome_then}
 use Rattle.algebra.specs.Meaning.{Meaning}
 use Rattle.survey.specs.declared.findings.Checked.{Checked}
-use Rattle.survey.specs.declared.findings.Findings.{Findings}
-use Rattle.survey.specs.Findings.{findings, checked_if}
+use Rattle.survey.specs.Codes.{invertible, longest_period}
+use Rattle.survey.specs.Findings.{checked_if}
 use Rattle.survey.proofs.Inverses.{all_invertible}
 use Rattle.survey.proofs.findings.look_at.Goals as goal
 
-found : ℕ → ℕ → Option Checked → Findings
-found w o k = record { width = w; one = o; checked = k }
+-- what is there if the test holds
+there_if : (M : Meaning) (b : Bool) (r : Option Checked) → is_some r ≡ b → IfSome r (λ k. (k.invertible ≡ invertible M) × (k.longest ≡ longest_period M)) → r ≡ checked_if b M
+there_if M true (Some k) e is = λ i. Some (record { invertible = is.0 i; longest = is.1 i })
+there_if M true None e is = cc
+there_if M false (Some k) e is = cc
+there_if M false None e is = refl
 
-checked : ℕ → ℕ → Option Checked
-checked i p = Some (record { invertible = i; longest = p })
-
-same : (M : Meaning) (w o : ℕ) (k : Option Checked) → w ≡ M.width → o ≡ M.one → k ≡ checked_if M.sound M → found w o k ≡ findings M
-unfolding found
-same M w o k p q r = λ i. record { width = p i; one = q i; checked = r i }
-
-pub returns-then-sound : goal.returns-then-sound
-unfolding found checked
-returns-then-sound g c =
+pub returns : goal.returns
+returns g c =
     let x = c.args.field.now in
     let M = g.F.Field.meaning x in
+    let checked = there_if M M.sound c.then.result (c.then.ensures.variant ∙ c.sound.ensures) (IfSome_then c.then.result c.then.ensures.some (λ k is. search rules)) in
     record {
-      value = same M c.width-width.result c.one-one.result (checked c.invertible.result c.longest_period.result)
-          c.width-width.ensures c.one-one.ensures
-          (ap₂ checked c.invertible.ensures c.longest_period.ensures ∙ ap (λ b. checked_if b M) c.if-sound.ensures);
+      value = cc checked;
       inverses = λ sound. all_invertible M (g.met.F.Field.shape x) (g.met.F.Field.laws x sound);
     }
