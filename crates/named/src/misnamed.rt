@@ -1,7 +1,6 @@
-//! Why a text names no field.
 use thiserror::Error;
 
-/// What the text lacks.
+/// Why a text names no field.
 #[derive(Clone, Copy, Debug, PartialEq, Eq, Error)]
 pub enum Misnamed {
     #[error("a field is a `shift`, a `table` or a `tower`")]

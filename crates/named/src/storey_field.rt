@@ -4,6 +4,7 @@ ghost use Rattle.named.specs.Standing.{storey_owed};
 use crate::storey::Storey;
 use field::Field;
 
+// Each method has its match: the field in it may not be handed out as a `&dyn Field`, and a closure that takes one gets no proof.
 impl Field for Storey {
     ghost meaning = { storey };
 
