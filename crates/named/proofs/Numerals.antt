@@ -4,7 +4,7 @@ use Rattle.std.proofs.Common.{◌≡◌, ℕ, zero, suc, ◌<◌, List, [], ◌�
 use Rattle.std.specs.Str.Parse.{AllDigits, without_leading_plus}
 use Rattle.std.proofs.lemmas.Str.Parse.{digit_at, without_leading_plus_none, without_leading_plus_plus}
 use Rattle.std.proofs.lemmas.Bool.{cases_eq}
-use Rattle.named.specs.Numbers.{Reads, Begins}
+use Rattle.named.specs.Numbers.{Reads, Begins, TwoNumbers}
 
 no_space : (a : List ℕ) → AllDigits 10 (without_leading_plus a) → (i : ℕ) → i < length a → get_or a i 0 ≡ 32 → ⊥
 no_space a digits i h e = ⊎_elim plus plain (cases_eq (get_or a 0 0) 43)
@@ -37,3 +37,6 @@ after_space (x ∷ a) (y ∷ b) r s e na nb =
 
 pub one_rest : (text : List ℕ) (n k : ℕ) (r s : List ℕ) → Begins text n r → Begins text k s → r ≡ s
 one_rest text n k r s a b = after_space a.0 b.0 r s (sym a.1 ∙ b.1) (reads_no_space a.0 n a.2) (reads_no_space b.0 k b.2)
+
+pub no_second : (text rest : List ℕ) (p : ℕ) → Begins text p rest → ((g : ℕ) → Reads rest g → ⊥) → (q g : ℕ) → TwoNumbers text q g → ⊥
+no_second text rest p begins none q g pair = none g (subst (λ z. Reads z g) (one_rest text q p pair.0 rest pair.1 begins) pair.2)

@@ -1,6 +1,6 @@
 -- What the first word of a field's name, and the numbers behind it, say.
 use Rattle.std.specs.Prelude.{◌≡◌, ℕ, List, ◌++◌, codes}
-use Rattle.named.specs.Numbers.{Reads, Begins}
+use Rattle.named.specs.Numbers.{Reads, Begins, TwoNumbers}
 use Rattle.named.specs.declared.layer.Layer.{Layer}
 use Rattle.named.specs.declared.layer.Layer.TheVariants.{Shift, Table, Tower}
 use Rattle.named.specs.declared.misnamed.Misnamed.{Misnamed}
@@ -17,7 +17,7 @@ OnTop text c below = (rest : List ℕ) × After (codes "tower ") text rest × Be
 -- `shift` and a number, `table` and two numbers, or a tower
 abbrev pub Says : List ℕ → Layer → Type 0
 Says text (Shift p) = (rest : List ℕ) × After (codes "shift ") text rest × Reads rest p
-Says text (Table p g) = (rest : List ℕ) × (tail : List ℕ) × After (codes "table ") text rest × Begins rest p tail × Reads tail g
+Says text (Table p g) = (rest : List ℕ) × After (codes "table ") text rest × TwoNumbers rest p g
 Says text (Tower c below) = OnTop text c below.now
 
 -- why a text says nothing of the kind
@@ -25,6 +25,6 @@ abbrev pub Faulty : List ℕ → Misnamed → Type 0
 Faulty text UnknownMake =
     ((rest : List ℕ) → After (codes "shift ") text rest → ⊥) × ((rest : List ℕ) → After (codes "table ") text rest → ⊥) × ((rest : List ℕ) → After (codes "tower ") text rest → ⊥)
 Faulty text ShiftNumber = (rest : List ℕ) × After (codes "shift ") text rest × ((p : ℕ) → Reads rest p → ⊥)
-Faulty text TableNumbers = (rest : List ℕ) × After (codes "table ") text rest × ((p g : ℕ) (tail : List ℕ) → Begins rest p tail → Reads tail g → ⊥)
+Faulty text TableNumbers = (rest : List ℕ) × After (codes "table ") text rest × ((p g : ℕ) → TwoNumbers rest p g → ⊥)
 Faulty text TowerNumber = (rest : List ℕ) × After (codes "tower ") text rest × ((c : ℕ) (below : List ℕ) → Begins rest c below → ⊥)
 Faulty text TooManyTowers = ⊥

@@ -9,3 +9,7 @@ Reads text n = IsNumeral 10 (without_leading_plus text) × (digits_value 10 (wit
 -- the text is a number, a space and the rest
 abbrev pub Begins : List ℕ → ℕ → List ℕ → Type 0
 Begins text n rest = (numeral : List ℕ) × (text ≡ numeral ++ (32 ∷ rest)) × Reads numeral n
+
+-- the text is two numbers with a space between them
+abbrev pub TwoNumbers : List ℕ → ℕ → ℕ → Type 0
+TwoNumbers text p g = (rest : List ℕ) × Begins text p rest × Reads rest g

@@ -29,6 +29,7 @@ fn raised(field: Storey, c: u32) -> Storey
 }
 
 // The field that the text names with at most `room` towers.
+#[tactic(auto, using(crate::specs::Names::of_shift, crate::specs::Names::of_table, crate::specs::Names::of_tower, crate::specs::Names::at_once))]
 fn named_within(text: &str, room: u8) -> Result<Storey, Misnamed>
     requires { room ≤ 3 }
     ensures { MatchResult result (λ f. Names text.now (storey f) × (height f ≤ room)) (Misnames room text.now) }

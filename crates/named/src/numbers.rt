@@ -1,6 +1,6 @@
 //! Numbers in a text.
 ghost use Rattle.std.specs.Prelude.{ℕ, List, MatchOption};
-ghost use Rattle.named.specs.Numbers.{Reads, Begins};
+ghost use Rattle.named.specs.Numbers.{Reads, Begins, TwoNumbers};
 
 // The number that the whole text is.
 pub fn number(text: &str) -> Option<u32>
@@ -15,4 +15,12 @@ pub fn number_and_rest(text: &str) -> Option<(u32, &str)>
 {
     let (first, rest) = text.split_once(' ')?;
     Some((number(first)?, rest))
+}
+
+// The two numbers around the first space.
+pub fn two_numbers(text: &str) -> Option<(u32, u32)>
+    ensures { MatchOption result ((p g : ℕ) → TwoNumbers text.now p g → ⊥) (λ x. TwoNumbers text.now x.0 x.1) }
+{
+    let (first, rest) = number_and_rest(text)?;
+    Some((first, number(rest)?))
 }
