@@ -1,18 +1,47 @@
--- Zeros and the unit as they are written.
+-- Blocks and rows that are written over the start of an empty room.
 -- Assumes nothing.
-use Rattle.std.proofs.Common.{◌≡◌, ℕ, zero, suc, ◌-◌, ◌<◌, ◌≤◌, List, ◌∷◌, take, set, replicate, ap, ◌∙◌, not-suc-le-zero}
-use native.Mathlib.Nat.{sub-zero}
-use Rattle.std.proofs.lemmas.List.{take-replicate}
-use Rattle.algebra.specs.Meaning.{Meaning, on_bytes}
-use Rattle.algebra.specs.Tuples.{zeros, unit}
-use Rattle.blocks.proofs.Coefficients.{zeros_are}
+use Rattle.std.proofs.Common.{◌≡◌, ℕ, ◌+◌, ◌-◌, ◌≤◌, Bool, true, ◌&&◌, eqb, List, [], ◌++◌, length, take, drop, replicate, Decides, sym, refl, ap, ◌∙◌, subst, ap₂, arith}
+use Rattle.std.proofs.lemmas.Bool.{and_parts, and_from, eq-eqb, eqb-true}
+use Rattle.std.proofs.lemmas.Cmp.{nat_list_eq_equiv}
+use Rattle.std.specs.Cmp.Lexicographic.{same_text}
+use lib.Pointwise.{pointwise}
+use Rattle.std.proofs.lemmas.List.{take_at, take-replicate, drop-replicate, length-replicate, replicate-append-replicate}
+use Rattle.blocks.specs.Rooms.{in_room, Fills, in_rooms, FillsSquare, Even}
 
--- one over zeros
-pub one_written : (M : Meaning) (n : ℕ) → 0 < n → set (replicate n 0) 0 M.one ≡ unit (on_bytes M) n
-unfolding unit on_bytes
-one_written M zero h = absurd (not-suc-le-zero h)
-one_written M (suc n) h = ap (λ (t : List ℕ). M.one ∷ t) (zeros_are M n)
+-- what lies at the start of a room whose rest is as it was
+front : {A : Type 0} (e : A) (xs : List A) (n : ℕ) → length xs ≡ n → xs ++ replicate (32 - length xs) e ≡ xs ++ drop n (replicate 32 e)
+front e xs n size = ap (λ t. xs ++ t) (ap (λ k. replicate (32 - k) e) size ∙ sym (drop-replicate n 32 e))
 
--- the start of a fresh room
-pub fresh : (M : Meaning) (n : ℕ) → n ≤ 32 → take (n - 0) (replicate 32 0) ≡ zeros (on_bytes M) n
-fresh M n h = ap (λ k. take k (replicate 32 0)) (sub-zero n) ∙ take-replicate n 32 0 h ∙ zeros_are M n
+pub written : (bytes : List ℕ) (n : ℕ) → length bytes ≡ n → n ≤ 32 → Fills n (bytes ++ drop n (replicate 32 0))
+written bytes n size few =
+    let start = take_at bytes (drop n (replicate 32 0)) n size in
+    record { few = few; whole = ap length start ∙ size; rest = ap in_room start ∙ front 0 bytes n size }
+
+pub zeros : (n : ℕ) → n ≤ 32 → Fills n (replicate 32 0)
+zeros n few =
+    let all : n + (32 - n) ≡ 32 = omega arith in
+    subst (Fills n) (ap (λ t. replicate n 0 ++ t) (drop-replicate n 32 0) ∙ replicate-append-replicate n (32 - n) 0 ∙ ap (λ k. replicate k 0) all)
+    (written (replicate n 0) n (length-replicate n 0) few)
+
+pub square : (rows : List (List ℕ)) (n : ℕ) → length rows ≡ n → n ≤ 32 → Even rows → FillsSquare n (rows ++ drop n (replicate 32 []))
+square rows n size few even =
+    let start = take_at rows (drop n (replicate 32 [])) n size in
+    record { few = few; whole = ap length start ∙ size; even = subst Even (sym start) even; rest = ap in_rooms start ∙ front [] rows n size }
+
+-- how long the part of a room is that a call is lent
+pub part : {A : Type 0} (e : A) (n : ℕ) → n ≤ 32 → length (take n (replicate 32 e)) ≡ n
+part e n few = ap length (take-replicate n 32 e few) ∙ length-replicate n e
+
+-- whether two blocks are the same, by their sizes and rooms
+pub same_blocks : (a b : List ℕ) (r : Bool) → r ≡ (eqb (length a) (length b) && pointwise eqb (in_room a) (in_room b)) → Decides r (a ≡ b)
+same_blocks a b r is = (yes, λ e. is ∙ subst (λ (x : List ℕ). (eqb (length a) (length x) && pointwise eqb (in_room a) (in_room x)) ≡ true) e same)
+  where
+    yes : r ≡ true → a ≡ b
+    yes h =
+        let parts = and_parts (eqb (length a) (length b)) (pointwise eqb (in_room a) (in_room b)) (sym is ∙ h) in
+        sym (take_at a (replicate (32 - length a) 0) (length a) refl)
+        ∙ ap₂ take (eqb-true (length a) (length b) parts.0) (same_text (in_room a) (in_room b) (sym parts.1))
+        ∙ take_at b (replicate (32 - length b) 0) (length b) refl
+
+    same : (eqb (length a) (length a) && pointwise eqb (in_room a) (in_room a)) ≡ true
+    same = and_from (eqb (length a) (length a)) (pointwise eqb (in_room a) (in_room a)) (eq-eqb (length a) (length a) refl) (nat_list_eq_equiv.refl (in_room a))

@@ -1,4 +1,2 @@
-pub mod Strides
+pub mod Rooms
 pub mod Moduli
-pub mod Elimination
-pub mod Maps

@@ -2,11 +2,10 @@
 ghost use Rattle.std.specs.Prelude.{◌≡◌, length};
 ghost use Rattle.algebra.specs.Arithmetic.{Arithmetic, Formed};
 
-/// The most codes that a block has.
-pub const WIDEST: usize = 32;
+use crate::block::Block;
 
 /// Arithmetic on the blocks of one size over a field: products, and the q-th power, where q is how many codes the field has.
-/// It works in place, on bytes that need not be codes; what its laws are is said of codes.
+/// It works on bytes that need not be codes; what its laws are is said of codes.
 pub trait BlockArithmetic {
     ghost arithmetic: { Self → Arithmetic };
 
@@ -16,22 +15,26 @@ pub trait BlockArithmetic {
 
     /// How many codes a block has.
     fn size(&self) -> usize
-        ensures value { result ≡ (arithmetic self.now).size }
-        ensures formed { Formed (arithmetic self.now) };
+        ensures { result ≡ (arithmetic self.now).size };
 
-    /// Makes `block` the product of `factor` and itself.
-    fn multiply(&self, factor: &[u8], block: &mut [u8])
-        requires left { length factor.now ≡ (arithmetic self.now).size }
-        requires right { length block.old ≡ (arithmetic self.now).size }
-        ensures { block.new ≡ (arithmetic self.now).product factor.now block.old };
+    /// The product of two blocks.
+    fn multiply(&self, a: Block, b: Block) -> Block
+        requires left { length a ≡ (arithmetic self.now).size }
+        requires right { length b ≡ (arithmetic self.now).size }
+        ensures value { result ≡ (arithmetic self.now).product a b }
+        ensures size { length result ≡ (arithmetic self.now).size };
 
-    /// Makes a block its square.
-    fn square(&self, block: &mut [u8])
-        requires { length block.old ≡ (arithmetic self.now).size }
-        ensures { block.new ≡ (arithmetic self.now).product block.old block.old };
+    /// The square of a block.
+    fn square(&self, block: Block) -> Block
+        requires { length block ≡ (arithmetic self.now).size }
+        ensures value { result ≡ (arithmetic self.now).product block block }
+        ensures size { length result ≡ (arithmetic self.now).size };
 
-    /// Makes a block its q-th power.
-    fn raise_to_q(&self, block: &mut [u8])
-        requires { length block.old ≡ (arithmetic self.now).size }
-        ensures { block.new ≡ (arithmetic self.now).q_power block.old };
+    /// The q-th power of a block.
+    fn raise_to_q(&self, block: Block) -> Block
+        requires { length block ≡ (arithmetic self.now).size }
+        ensures value { result ≡ (arithmetic self.now).q_power block }
+        ensures size { length result ≡ (arithmetic self.now).size };
+
+    ghost formed: { (x : Self) → Formed (arithmetic x) };
 }

@@ -1,11 +1,9 @@
 //! Arithmetic on blocks of codes over any field.
 #![tactic(auto)]
 
-mod affine;
-mod affine_value;
 mod arithmetic;
+mod block;
 mod chain;
-mod elimination;
 mod laws;
 mod linear;
 mod modular;
@@ -13,14 +11,15 @@ mod modular_value;
 mod modulus;
 mod modulus_value;
 mod product;
-mod rows;
+mod quotient;
+mod repeat;
 mod rule;
+mod square;
 mod steps;
-mod stride;
 mod tuples;
 
-pub use affine_value::AffineMap;
-pub use arithmetic::{BlockArithmetic, WIDEST};
+pub use arithmetic::BlockArithmetic;
+pub use block::{Block, WIDEST};
 pub use laws::products_stand;
 pub use modular_value::Modular;
 pub use modulus_value::Modulus;

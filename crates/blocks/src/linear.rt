@@ -1,20 +1,24 @@
-//! Linear maps on blocks, by their rows.
-ghost use Rattle.std.specs.Prelude.{◌≡◌, ℕ, ◌<◌, ◌≤◌, [], length};
+//! Linear maps by their rows.
+ghost use Rattle.std.specs.Prelude.{◌≡◌, length};
 ghost use Rattle.algebra.specs.Linear.{combination};
 ghost use Rattle.algebra.specs.Meaning.{on_bytes};
 
-use crate::arithmetic::WIDEST;
+use crate::block::{Block, WIDEST};
+use crate::square::Square;
 use crate::tuples::add_multiple;
 use field::Field;
 
-/// Adds to `sum`, for each factor, that factor times the row at its place, as far as `sum` goes.
-pub fn add_combination<F: Field>(field: &F, rows: &[[u8; WIDEST]], factors: &[u8], sum: &mut [u8])
-    requires enough { length factors.now ≤ length rows.now }
-    requires small { length sum.old ≤ 32 }
-    ensures { sum.new ≡ combination (on_bytes (F.meaning field.now)) sum.old rows.now factors.now }
+/// The constants plus, for each factor, that factor times the row at its place.
+pub(crate) fn combined<F: Field>(field: &F, constants: Block, rows: &Square, factors: Block) -> Block
+    requires { length constants ≡ length rows.now }
+    ensures value { result ≡ combination (on_bytes (F.meaning field.now)) constants rows.now factors }
+    ensures size { length result ≡ length constants }
 {
-    for i in (0..factors.len()).rev() {
-        let row = rows[i];
-        add_multiple(field, factors[i], &row, sum);
+    let mut room = [0u8; WIDEST];
+    let sum = &mut room[..constants.len()];
+    sum.copy_from_slice(constants.as_slice());
+    for (row, factor) in rows.as_slice().iter().zip(factors.as_slice()) {
+        add_multiple(field, *factor, row.as_slice(), sum);
     }
+    Block::from_bytes(sum)
 }

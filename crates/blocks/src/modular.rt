@@ -1,38 +1,48 @@
 //! Products modulo a monic polynomial, as block arithmetic.
-ghost use Rattle.blocks.specs.Moduli.{arithmetic_of};
+ghost use Rattle.std.specs.Prelude.{◌≡◌};
+ghost use Rattle.blocks.specs.Moduli.{arithmetic_of, is_formed};
 
-use crate::arithmetic::{BlockArithmetic, WIDEST};
-use crate::linear::add_combination;
+use crate::arithmetic::BlockArithmetic;
+use crate::block::Block;
+use crate::linear::combined;
 use crate::modular_value::Modular;
-use crate::product::{multiply_in_place, square_in_place};
+use crate::quotient::Quotient;
 use field::Field;
+
+impl<'f, 'm, F: Field> Modular<'f, 'm, F> {
+    pub(crate) fn quotient(&self) -> Quotient<'f, F>
+        ensures field { result.field.now ≡ self.now.field.now }
+        ensures low { result.low ≡ self.now.modulus.now.low }
+    {
+        Quotient {
+            field: self.field,
+            low: self.modulus.low,
+        }
+    }
+}
 
 impl<'f, 'm, F: Field> BlockArithmetic for Modular<'f, 'm, F> {
     ghost arithmetic = { λ x. arithmetic_of (F.Field.meaning x.field.now) x.modulus.now };
+
+    ghost formed = { λ x. is_formed (F.Field.meaning x.field.now) (F.Field.shape x.field.now) x.modulus.now };
 
     fn width(&self) -> u8 {
         self.field.width()
     }
 
     fn size(&self) -> usize {
-        self.modulus.size
+        self.modulus.low.len()
     }
 
-    fn multiply(&self, factor: &[u8], block: &mut [u8]) {
-        let low = &self.modulus.low[..];
-        multiply_in_place(self.field, &low[0..self.modulus.size], factor, block);
+    fn multiply(&self, a: Block, b: Block) -> Block {
+        self.quotient().product(a, b)
     }
 
-    fn square(&self, block: &mut [u8]) {
-        let low = &self.modulus.low[..];
-        square_in_place(self.field, &low[0..self.modulus.size], block);
+    fn square(&self, block: Block) -> Block {
+        self.quotient().product(block, block)
     }
 
-    fn raise_to_q(&self, block: &mut [u8]) {
-        let rows = &self.modulus.rows[..];
-        let mut room = [0u8; WIDEST];
-        let sum = &mut room[0..self.modulus.size];
-        add_combination(self.field, rows, block, sum);
-        block.copy_from_slice(sum);
+    fn raise_to_q(&self, block: Block) -> Block {
+        combined(self.field, Block::zeros(self.modulus.low.len()), &self.modulus.rows, block)
     }
 }

@@ -5,9 +5,9 @@ ghost use Rattle.algebra.specs.Blocks.{Codes};
 ghost use Rattle.algebra.specs.Modular.{q_rows};
 ghost use Rattle.blocks.specs.Moduli.{coefficients, kept_rows, arithmetic_of};
 
-use crate::arithmetic::WIDEST;
+use crate::block::Block;
 use crate::modulus_value::Modulus;
-use crate::rows::{padded, write_rows};
+use crate::quotient::Quotient;
 use field::Field;
 
 impl Modulus {
@@ -19,12 +19,8 @@ impl Modulus {
         ensures rows { kept_rows result ≡ q_rows (F.meaning field.now) low.now }
         ensures lawful { (F.meaning field.now).sound ≡ true → Codes (F.meaning field.now) low.now → Lawful (arithmetic_of (F.meaning field.now) result) }
     {
-        let mut rows = [[0u8; WIDEST]; WIDEST];
-        write_rows(field, low, &mut rows);
-        Modulus {
-            size: low.len(),
-            low: padded(low),
-            rows,
-        }
+        let low = Block::from_bytes(low);
+        let rows = Quotient { field, low }.q_rows();
+        Modulus { low, rows }
     }
 }

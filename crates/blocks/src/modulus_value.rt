@@ -1,16 +1,14 @@
 ghost use Rattle.std.specs.Prelude.{◌≡◌, ◌≤◌, length};
 
-use crate::arithmetic::WIDEST;
+use crate::block::Block;
+use crate::square::Square;
 
-/// A modulus X^v + f over some field, with what is worked out for it once: the rows of the q-th power.
-/// The coefficients f and each row lie at the start of their room.
+/// A modulus X^v + f over some field: the v coefficients f, and what is worked out for them once, the rows of the q-th power.
 #[derive(Clone, Copy)]
 pub struct Modulus {
-    pub(crate) size: usize,
-    pub(crate) low: [u8; WIDEST],
-    pub(crate) rows: [[u8; WIDEST]; WIDEST],
-    ghost some: { 1 ≤ size },
-    ghost few: { size ≤ 32 },
-    ghost room: { length low ≡ 32 },
-    ghost tall: { length rows ≡ 32 },
+    pub(crate) low: Block,
+    pub(crate) rows: Square,
+    ghost some: { 1 ≤ length low },
+    ghost few: { length low ≤ 32 },
+    ghost tall: { length rows ≡ length low },
 }

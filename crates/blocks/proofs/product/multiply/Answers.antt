@@ -1,42 +1,39 @@
-use Rattle.std.proofs.Common.{◌≡◌, ◌-◌, ◌<◌, length, get_or, drop, sym, ap, ◌∙◌, subst, arith}
+use Rattle.std.proofs.Common.{◌≡◌, ℕ, List, [], ◌∷◌, ◌++◌, sym, ap, ◌∙◌, append-nil, append_assoc, length}
+use Rattle.std.specs.Iterator.Adapters.{rev_source}
+use Rattle.std.specs.Slice.Iter.{iter_rest}
 use Rattle.algebra.specs.Meaning.{on_bytes}
-use Rattle.algebra.specs.Tuples.{plus, scale, times_x, times}
+use Rattle.algebra.specs.Tuples.{plus, scale, times_x, times, zeros}
 use Rattle.algebra.proofs.Plain.{same_times}
-use Rattle.algebra.proofs.Tuples.{length_times_x}
-use Rattle.blocks.proofs.Coefficients.{blank, next_coefficient}
+use Rattle.blocks.proofs.Coefficients.{zeros_are, all_taken}
 use Rattle.blocks.proofs.product.multiply.Goals as goal
 
-pub loop-i-init : goal.loop-i-init
-loop-i-init g c =
-    let M = g.F.Field.meaning c.args.field.now in
-    c.fill.ensures.after (λ y e. e) ∙ blank M c.args.modulus.now c.args.a.now c.args.b.now (length c.args.product.now) (c.requires.room ∙ sym c.requires.operand)
+pub loop-factor-init : goal.loop-factor-init
+unfolding times
+loop-factor-init g c =
+    let all : iter_rest (rev_source c.into_iter-factor-iterator.result) ≡ c.args.a.now
+    = ap (λ x. iter_rest (rev_source x)) c.into_iter-factor-iterator.ensures.into_iter_gives ∙ ap iter_rest c.rev-factor-items.ensures.source ∙ c.iter.ensures.rest in
+    let O = on_bytes (g.F.Field.meaning c.args.field.now) in
+    let blank : c.fill.new.self ≡ zeros O (length c.args.b.now)
+    = c.fill.ensures.after (λ y e. e) ∙ zeros_are (g.F.Field.meaning c.args.field.now) (length c.args.product.now) ∙ ap (zeros O) (c.requires.room ∙ sym c.requires.operand) in
+    ([], sym (append-nil _ ∙ all), blank)
 
-pub multiply_by_x-requires : goal.multiply_by_x-requires
-multiply_by_x-requires g c =
-    let same : length c.loop-i.product ≡ length c.args.modulus.now = c.loop-i.auto.product ∙ c.fill.ensures.len ∙ c.requires.room in
-    record { same = same; some = subst (λ n. 0 < n) (sym same) c.requires.some }
-
-pub add_multiple-requires : goal.add_multiple-requires
-add_multiple-requires g c =
-    let same : length c.multiply_by_x.new.block ≡ length c.args.b.now
-    = ap length c.multiply_by_x.ensures.bytes
-    ∙ length_times_x (on_bytes (g.F.Field.meaning c.args.field.now)) c.args.modulus.now c.loop-i.product (c.loop-i.auto.product ∙ c.fill.ensures.len ∙ c.requires.room)
-    ∙ sym c.requires.operand in
-    omega (arith, same)
-
-pub loop-i-preserved : goal.loop-i-preserved
-loop-i-preserved g c =
-    let M = g.F.Field.meaning c.args.field.now in
-    c.add_multiple.ensures.bytes
-    ∙ ap (plus (on_bytes M) (scale (on_bytes M) (get_or c.args.a.now (c.loop-i.i - 1) 0) c.args.b.now)) (c.multiply_by_x.ensures.bytes ∙ ap (times_x (on_bytes M) c.args.modulus.now) c.loop-i.invariant)
-    ∙ next_coefficient M c.args.modulus.now c.args.a.now c.args.b.now c.loop-i.i c.loop-i-test.true c.loop-i.auto.i
+pub loop-factor-preserved : goal.loop-factor-preserved
+unfolding times
+loop-factor-preserved g c =
+    let O = on_bytes (g.F.Field.meaning c.args.field.now) in
+    let inv = c.loop-factor.invariant in
+    let x = c.in-Some.factor.now in (
+      x ∷ inv.0,
+      inv.1 ∙ ap (λ (rest : List ℕ). rest ++ inv.0) c.in-Some.ensures.steps ∙ append_assoc (iter_rest (rev_source c.next.new.self)) (x ∷ []) inv.0,
+      c.add_multiple.ensures.bytes ∙ ap (plus O (scale O x c.args.b.now)) (c.multiply_by_x.ensures.bytes ∙ ap (times_x O c.args.modulus.now) inv.2),
+    )
 
 pub returns : goal.returns
 returns g c =
     let M = g.F.Field.meaning c.args.field.now in
-    let done : c.loop-i.i ≡ 0 = omega (arith, c.loop-i-test.false) in
     let f = c.args.modulus.now in
     let a = c.args.a.now in
     let b = c.args.b.now in
-    let bytes : c.loop-i.product ≡ times (on_bytes M) f a b = c.loop-i.invariant ∙ ap (λ i. times (on_bytes M) f (drop i a) b) done in
+    let inv = c.loop-factor.invariant in
+    let bytes : c.loop-factor.product ≡ times (on_bytes M) f a b = inv.2 ∙ ap (λ x. times (on_bytes M) f x b) (all_taken _ inv.0 a inv.1 c.in-None.ensures.steps.0) in
     record { bytes = bytes; codes = λ hf ha hb. bytes ∙ same_times M (g.met.F.Field.shape c.args.field.now) f a b hf ha hb }

@@ -1,0 +1,10 @@
+use Rattle.std.proofs.Common.{◌≡◌, length}
+use Rattle.algebra.specs.Meaning.{on_bytes}
+use Rattle.algebra.specs.Tuples.{times}
+use Rattle.blocks.proofs.Written.{RowsTo}
+use Rattle.blocks.proofs.quotient.Quotient.q_rows.Given as goal
+
+-- the rows that were gone through are written
+abbrev pub invariant-loop-row : goal.invariant-loop-row
+invariant-loop-row g l =
+    RowsTo (times (on_bytes (g.F.Field.meaning l.self.field.now)) l.self.low) (length l.self.low) l.factor l.initial.power l.row-index l.power l.rows

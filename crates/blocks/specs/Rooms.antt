@@ -1,0 +1,27 @@
+-- How a block, and a square of rows, lie in their rooms: at the start, with nothing behind them that could tell two apart.
+use Rattle.std.specs.Prelude.{◌≡◌, ℕ, ◌-◌, ◌<◌, ◌≤◌, List, [], ◌++◌, length, take, replicate, slice_index_or}
+
+-- a block, and zeros behind it
+abbrev pub in_room : List ℕ → List ℕ
+in_room block = block ++ replicate (32 - length block) 0
+
+-- so many bytes at the start of a room count, and the rest is zeros
+pub record Fills (size : ℕ) (room : List ℕ) : Type 0 where
+  pub few : size ≤ 32
+  pub whole : length (take size room) ≡ size
+  pub rest : in_room (take size room) ≡ room
+
+-- every row is as long as there are rows
+abbrev pub Even : List (List ℕ) → Type 0
+Even rows = (i : ℕ) → i < length rows → length (slice_index_or rows i []) ≡ length rows
+
+-- rows, and empty ones behind them
+abbrev pub in_rooms : List (List ℕ) → List (List ℕ)
+in_rooms rows = rows ++ replicate (32 - length rows) []
+
+-- so many rows at the start count, each as long as they are many, and the rest are empty
+pub record FillsSquare (size : ℕ) (rooms : List (List ℕ)) : Type 0 where
+  pub few : size ≤ 32
+  pub whole : length (take size rooms) ≡ size
+  pub even : Even (take size rooms)
+  pub rest : in_rooms (take size rooms) ≡ rooms

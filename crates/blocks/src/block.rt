@@ -1,0 +1,82 @@
+//! Blocks.
+ghost use Rattle.std.specs.Prelude.{◌≡◌, ◌<◌, ◌≤◌, length, replicate, slice_index, slice_set};
+
+use std::marker::Model;
+
+/// The most codes that a block has.
+pub const WIDEST: usize = 32;
+
+/// A block of at most 32 bytes. It is seen as the list of them; behind them its room holds zeros.
+#[derive(Clone, Copy, PartialEq, Eq, Debug)]
+pub struct Block {
+    pub(crate) size: usize,
+    pub(crate) room: [u8; WIDEST],
+}
+
+impl Model for Block {
+    ghost use Rattle.std.specs.Prelude.{List, ℕ, take, length};
+    ghost use Rattle.blocks.specs.Rooms.{Fills, in_room};
+
+    ghost Value = { List ℕ };
+
+    ghost view = { λ b. take b.size b.room };
+
+    ghost invariant = { λ b. Fills b.size b.room };
+
+    ghost inverse = { λ bytes. record { size = length bytes; room = in_room bytes } };
+
+    ghost inverse_ok = { λ b fills i. record { size = fills.whole i; room = fills.rest i } };
+}
+
+impl Block {
+    /// So many zeros.
+    pub fn zeros(size: usize) -> Block
+        requires { size ≤ 32 }
+        ensures { result ≡ replicate size 0 }
+    {
+        Block {
+            size,
+            room: [0; WIDEST],
+        }
+    }
+
+    /// These bytes.
+    pub fn from_bytes(bytes: &[u8]) -> Block
+        requires { length bytes.now ≤ 32 }
+        ensures { result ≡ bytes.now }
+    {
+        let mut room = [0u8; WIDEST];
+        room[..bytes.len()].copy_from_slice(bytes);
+        Block {
+            size: bytes.len(),
+            room,
+        }
+    }
+
+    /// How many bytes it has.
+    pub fn len(&self) -> usize
+        ensures value { result ≡ length self.now }
+        ensures few { result ≤ 32 }
+    {
+        self.size
+    }
+
+    /// Its bytes.
+    pub fn as_slice(&self) -> &[u8]
+        ensures value { result.now ≡ self.now }
+        ensures few { length self.now ≤ 32 }
+    {
+        let room = &self.room[..];
+        &room[..self.size]
+    }
+
+    /// Another byte at a place.
+    pub(crate) fn with(self, place: usize, byte: u8) -> Block
+        requires { place < length self }
+        ensures { result ≡ slice_set self place byte }
+    {
+        let mut changed = self;
+        changed.room[place] = byte;
+        changed
+    }
+}
