@@ -4,3 +4,5 @@ mod Coefficients
 mod Combinations
 mod Written
 mod Moduli
+mod Reduction
+mod Maps

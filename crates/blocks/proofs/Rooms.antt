@@ -1,11 +1,11 @@
 -- Blocks and rows that are written over the start of an empty room.
 -- Assumes nothing.
-use Rattle.std.proofs.Common.{◌≡◌, ℕ, ◌+◌, ◌-◌, ◌≤◌, Bool, true, ◌&&◌, eqb, List, [], ◌++◌, length, take, drop, replicate, Decides, sym, refl, ap, ◌∙◌, subst, ap₂, arith}
-use Rattle.std.proofs.lemmas.Bool.{and_parts, and_from, eq-eqb, eqb-true}
+use Rattle.std.proofs.Common.{◌≡◌, ℕ, ◌+◌, ◌-◌, ◌<◌, ◌≤◌, Bool, true, ◌&&◌, eqb, List, [], ◌++◌, length, get_or, take, drop, set, replicate, Decides, sym, refl, ap, ◌∙◌, subst, ap₂, ⊎_elim, arith, length-set, get_or-set_other, get_or-set_same}
+use Rattle.std.proofs.lemmas.Bool.{and_parts, and_from, eq-eqb, eqb-true, cases_eq}
 use Rattle.std.proofs.lemmas.Cmp.{nat_list_eq_equiv}
 use Rattle.std.specs.Cmp.Lexicographic.{same_text}
 use lib.Pointwise.{pointwise}
-use Rattle.std.proofs.lemmas.List.{take_at, take-replicate, drop-replicate, length-replicate, replicate-append-replicate}
+use Rattle.std.proofs.lemmas.List.{take_at, take-replicate, drop-replicate, length-replicate, replicate-append-replicate, get_or-replicate}
 use Rattle.blocks.specs.Rooms.{in_room, Fills, in_rooms, FillsSquare, Even}
 
 -- what lies at the start of a room whose rest is as it was
@@ -45,3 +45,17 @@ same_blocks a b r is = (yes, λ e. is ∙ subst (λ (x : List ℕ). (eqb (length
 
     same : (eqb (length a) (length a) && pointwise eqb (in_room a) (in_room a)) ≡ true
     same = and_from (eqb (length a) (length a)) (pointwise eqb (in_room a) (in_room a)) (eq-eqb (length a) (length a) refl) (nat_list_eq_equiv.refl (in_room a))
+
+-- rows of one length stay so where one of them is written
+pub long_set : (rows : List (List ℕ)) (i n : ℕ) (v : List ℕ) → ((k : ℕ) → k < length rows → length (get_or rows k []) ≡ n) → length v ≡ n
+    → (k : ℕ) → k < length (set rows i v) → length (get_or (set rows i v) k []) ≡ n
+long_set rows i n v each is k h =
+    let inside : k < length rows = subst (λ m. k < m) (length-set rows i v) h in
+    ⊎_elim (λ (e : k ≡ i). ap (λ z. length (get_or (set rows i v) z [])) e ∙ ap length (get_or-set_same rows i v [] (subst (λ z. z < length rows) e inside)) ∙ is)
+    (λ other. ap length (get_or-set_other rows i k v [] other) ∙ each k inside) (cases_eq k i)
+
+-- the part of a room that holds one row again and again
+pub long_part : (row : List ℕ) (n m : ℕ) → n ≤ 32 → length row ≡ m → (k : ℕ) → k < length (take n (replicate 32 row)) → length (get_or (take n (replicate 32 row)) k []) ≡ m
+long_part row n m few is k h =
+    ap (λ (l : List (List ℕ)). length (get_or l k [])) (take-replicate n 32 row few)
+    ∙ ap length (get_or-replicate n k row [] (subst (λ z. k < z) (part row n few) h)) ∙ is

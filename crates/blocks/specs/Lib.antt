@@ -1,2 +1,4 @@
 pub mod Rooms
 pub mod Moduli
+pub mod Elimination
+pub mod Maps

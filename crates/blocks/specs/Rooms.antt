@@ -1,5 +1,5 @@
 -- How a block, and a square of rows, lie in their rooms: at the start, with nothing behind them that could tell two apart.
-use Rattle.std.specs.Prelude.{◌≡◌, ℕ, ◌-◌, ◌<◌, ◌≤◌, List, [], ◌++◌, length, take, replicate, slice_index_or}
+use Rattle.std.specs.Prelude.{◌≡◌, ℕ, zero, suc, ◌-◌, ◌<◌, ◌≤◌, List, [], ◌∷◌, ◌++◌, length, take, drop, replicate, slice_index_or}
 
 -- a block, and zeros behind it
 abbrev pub in_room : List ℕ → List ℕ
@@ -25,3 +25,8 @@ pub record FillsSquare (size : ℕ) (rooms : List (List ℕ)) : Type 0 where
   pub whole : length (take size rooms) ≡ size
   pub even : Even (take size rooms)
   pub rest : in_rooms (take size rooms) ≡ rooms
+
+-- n bytes after n bytes, k times
+unfoldable pub parts : ℕ → ℕ → List ℕ → List (List ℕ)
+parts n zero bytes = []
+parts n (suc k) bytes = take n bytes ∷ parts n k (drop n bytes)

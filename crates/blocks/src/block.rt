@@ -1,6 +1,10 @@
 //! Blocks.
-ghost use Rattle.std.specs.Prelude.{◌≡◌, ◌<◌, ◌≤◌, length, replicate, slice_index, slice_set};
+ghost use Rattle.std.specs.Prelude.{◌≡◌, ◌<◌, ◌≤◌, length, replicate, slice_set};
+ghost use Rattle.algebra.specs.Meaning.{on_bytes};
+ghost use Rattle.algebra.specs.Tuples.{plus, scale};
 
+use crate::tuples::add_multiple;
+use field::Field;
 use std::marker::Model;
 
 /// The most codes that a block has.
@@ -78,5 +82,18 @@ impl Block {
         let mut changed = self;
         changed.room[place] = byte;
         changed
+    }
+
+    /// The sum of itself and a multiple of another block of its size.
+    pub(crate) fn plus_multiple<F: Field>(self, field: &F, factor: u8, other: Block) -> Block
+        requires { length other ≡ length self }
+        ensures value { result ≡ plus (on_bytes (F.meaning field.now)) (scale (on_bytes (F.meaning field.now)) factor other) self }
+        ensures size { length result ≡ length self }
+    {
+        let mut room = [0u8; WIDEST];
+        let sum = &mut room[..self.size];
+        sum.copy_from_slice(self.as_slice());
+        add_multiple(field, factor, other.as_slice(), sum);
+        Block::from_bytes(sum)
     }
 }

@@ -37,7 +37,12 @@ pub fn raise_by<B: BlockArithmetic>(blocks: &B, k: usize, count: usize, block: B
 }
 
 /// The product of the n terms that a block and its strides are, by the chain to n; `advance` takes so many strides.
-pub fn follow_chain<B: BlockArithmetic, S: Fn(usize, Block) -> Block>(blocks: &B, advance: S, n: usize, block: Block) -> Block
+pub fn follow_chain<B: BlockArithmetic, S: Fn(usize, Block) -> Block>(
+    blocks: &B,
+    advance: S,
+    n: usize,
+    block: Block,
+) -> Block
     requires some { 1 ≤ n }
     requires size { length block ≡ (B.arithmetic blocks.now).size }
     requires callable { (count : ℕ) (x : List ℕ) → count < 2 ^ 64 → length x ≡ (B.arithmetic blocks.now).size → S.pre advance count x }

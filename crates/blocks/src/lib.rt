@@ -1,9 +1,13 @@
 //! Arithmetic on blocks of codes over any field.
 #![tactic(auto)]
 
+mod affine;
+mod affine_value;
 mod arithmetic;
 mod block;
 mod chain;
+mod elimination;
+mod elimination_value;
 mod laws;
 mod linear;
 mod modular;
@@ -14,10 +18,12 @@ mod product;
 mod quotient;
 mod repeat;
 mod rule;
+mod shear;
 mod square;
 mod steps;
 mod tuples;
 
+pub use affine_value::AffineMap;
 pub use arithmetic::BlockArithmetic;
 pub use block::{Block, WIDEST};
 pub use laws::products_stand;

@@ -43,6 +43,11 @@ impl<'f, 'm, F: Field> BlockArithmetic for Modular<'f, 'm, F> {
     }
 
     fn raise_to_q(&self, block: Block) -> Block {
-        combined(self.field, Block::zeros(self.modulus.low.len()), &self.modulus.rows, block)
+        combined(
+            self.field,
+            Block::zeros(self.modulus.low.len()),
+            &self.modulus.rows,
+            block,
+        )
     }
 }

@@ -28,7 +28,13 @@ impl<F: Field> Quotient<'_, F> {
     {
         let mut room = [0u8; WIDEST];
         let product = &mut room[..b.len()];
-        multiply(self.field, self.low.as_slice(), a.as_slice(), b.as_slice(), product);
+        multiply(
+            self.field,
+            self.low.as_slice(),
+            a.as_slice(),
+            b.as_slice(),
+            product,
+        );
         Block::from_bytes(product)
     }
 

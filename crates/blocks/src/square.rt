@@ -1,8 +1,11 @@
 //! Squares of rows.
-ghost use Rattle.std.specs.Prelude.{◌≡◌, ◌<◌, ◌≤◌, length};
-ghost use Rattle.blocks.specs.Rooms.{Even};
+ghost use Rattle.std.specs.Prelude.{◌≡◌, ◌*◌, ◌<◌, ◌≤◌, List, ℕ, map, length};
+ghost use Rattle.algebra.specs.Linear.{basis_from};
+ghost use Rattle.algebra.specs.Meaning.{on_bytes};
+ghost use Rattle.blocks.specs.Rooms.{Even, parts};
 
 use crate::block::{Block, WIDEST};
+use field::Field;
 use std::marker::Model;
 
 /// At most 32 rows, each with as many bytes as there are rows. It is seen as the list of them; behind them lie empty rows.
@@ -42,6 +45,24 @@ impl Square {
         }
     }
 
+    /// The rows of so many bytes that follow each other.
+    pub(crate) fn from_bytes(size: usize, bytes: &[u8]) -> Square
+        requires few { size ≤ 32 }
+        requires bytes { length bytes.now ≡ size * size }
+        ensures value { result ≡ parts size size bytes.now }
+        ensures size { length result ≡ size }
+    {
+        let mut rooms = [Block::zeros(size); WIDEST];
+        let rows = &mut rooms[..size];
+        let mut rest = bytes;
+        for row in rows.iter_mut() {
+            let (front, behind) = rest.split_at(size);
+            *row = Block::from_bytes(front);
+            rest = behind;
+        }
+        Square::from_rows(rows)
+    }
+
     /// Its rows.
     pub(crate) fn as_slice(&self) -> &[Block]
         ensures value { result.now ≡ self.now }
@@ -50,5 +71,41 @@ impl Square {
     {
         let rooms = &self.rooms[..];
         &rooms[..self.size]
+    }
+
+    /// How many rows it has.
+    pub(crate) fn len(&self) -> usize
+        ensures value { result ≡ length self.now }
+        ensures few { result ≤ 32 }
+    {
+        self.size
+    }
+
+    /// So many units: row i has one at place i and zeros elsewhere.
+    pub(crate) fn units<F: Field>(field: &F, size: usize) -> Square
+        requires { size ≤ 32 }
+        ensures { result ≡ basis_from (on_bytes (F.meaning field.now)) size 0 size }
+    {
+        let mut rooms = [Block::zeros(size); WIDEST];
+        let rows = &mut rooms[..size];
+        for i in 0..size {
+            rows[i] = Block::zeros(size).with(i, field.one());
+        }
+        Square::from_rows(rows)
+    }
+
+    /// Each row changed, and as long as before.
+    pub(crate) fn changed<C: Fn(Block) -> Block>(&self, change: C) -> Square
+        requires callable { (row : List ℕ) → length row ≡ length self.now → C.pre change row }
+        requires stays { (row r : List ℕ) → length row ≡ length self.now → C.post change row r → length r ≡ length self.now }
+        ensures value { (f : List ℕ → List ℕ) → ((row r : List ℕ) → C.post change row r → r ≡ f row) → result ≡ map f self.now }
+        ensures size { length result ≡ length self.now }
+    {
+        let mut rooms = self.rooms;
+        let rows = &mut rooms[..self.size];
+        for row in rows.iter_mut() {
+            *row = change(*row);
+        }
+        Square::from_rows(rows)
     }
 }

@@ -1,0 +1,10 @@
+use Rattle.std.proofs.Common.{ap, ◌∙◌, length, ap₂}
+use Rattle.algebra.specs.Linear.{basis_from}
+use Rattle.algebra.specs.Meaning.{on_bytes}
+use Rattle.algebra.proofs.Basis.{length_basis_from}
+use Rattle.blocks.proofs.elimination.inverse_rows.Goals as goal
+
+pub invariant_of-start : goal.invariant_of-start
+invariant_of-start g c = record {
+  alike = ap length c.units.ensures ∙ length_basis_from (on_bytes (g.F.Field.meaning c.args.field.now)) c.len.result 0 c.len.result ∙ c.len.ensures.value;
+}

@@ -1,0 +1,126 @@
+//! Elimination by steps that change every row in one way, on rows to be made units and on rows that keep account of the steps.
+ghost use Rattle.std.specs.Prelude.{◌≡◌, ℕ, ◌<◌, ◌≤◌, ◌≢◌, true, false, [], map, length, IfSome, MatchOption, slice_index_or};
+ghost use Rattle.algebra.specs.Affine.{Square as Squared, DecidesInverse};
+ghost use Rattle.algebra.specs.Linear.{basis_from, shear_row};
+ghost use Rattle.algebra.specs.Meaning.{Laws, on_bytes};
+ghost use Rattle.blocks.specs.Elimination.{inverse_code, NoPivot, PivotAt, lead_step, pivot_step, RowReduced};
+
+use crate::block::Block;
+use crate::elimination_value::Elimination;
+use crate::shear::Shear;
+use crate::square::Square;
+use field::Field;
+
+// The first code below `last` that makes the one with `a`.
+fn inverse_below<F: Field>(field: &F, a: u8, last: u8) -> Option<u8>
+    ensures { MatchOption result ((b : ℕ) → b < last → (on_bytes (F.meaning field.now)).mul a b ≢ (F.meaning field.now).one) (λ b. (b < last) × ((on_bytes (F.meaning field.now)).mul a b ≡ (F.meaning field.now).one) × ((k : ℕ) → k < b → (on_bytes (F.meaning field.now)).mul a k ≢ (F.meaning field.now).one)) }
+{
+    let one = field.one();
+    (0..last).find(|b| field.product(a, *b) == one)
+}
+
+// The code that makes the one with `a`; it is the last where no other does.
+fn inverse_code<F: Field>(field: &F, a: u8) -> u8
+    ensures { result ≡ inverse_code (F.meaning field.now) a }
+{
+    let last = ((1u16 << field.width()) - 1) as u8;
+    inverse_below(field, a, last).unwrap_or(last)
+}
+
+// The first place from k on where a row is not zero.
+fn pivot_place(row: &[u8], k: usize) -> Option<usize>
+    ensures { MatchOption result (NoPivot k row.now) (PivotAt k row.now) }
+{
+    (k..row.len()).find(|j| row[*j] != 0)
+}
+
+impl Elimination {
+    // All rows after a change.
+    fn changed<F: Field>(self, field: &F, shear: &Shear) -> Elimination
+        requires place { shear.now.place < length self.work }
+        requires size { length shear.now.step ≡ length self.work }
+        ensures work { result.work ≡ map (shear_row (on_bytes (F.meaning field.now)) shear.now.factor shear.now.place shear.now.step) self.work }
+        ensures account { result.account ≡ map (shear_row (on_bytes (F.meaning field.now)) shear.now.factor shear.now.place shear.now.step) self.account }
+    {
+        Elimination {
+            work: shear.rows(field, &self.work),
+            account: shear.rows(field, &self.account),
+        }
+    }
+
+    // Brings a pivot to place k: adds the element at the pivot's place there, in every row.
+    fn led<F: Field>(self, field: &F, place: usize, k: usize) -> Elimination
+        requires place { place < length self.work }
+        requires row { k < length self.work }
+        ensures work { result.work ≡ map (lead_step (F.meaning field.now) (length self.work) place k) self.work }
+        ensures account { result.account ≡ map (lead_step (F.meaning field.now) (length self.work) place k) self.account }
+    {
+        if place == k {
+            return self;
+        }
+        let one = field.one();
+        let step = Block::zeros(self.work.len()).with(k, one);
+        self.changed(
+            field,
+            &Shear {
+                factor: one,
+                place,
+                step,
+            },
+        )
+    }
+
+    // Makes row k a unit by its pivot at place k, and changes every row so.
+    fn cleared<F: Field>(self, field: &F, k: usize) -> Elimination
+        requires { k < length self.work }
+        ensures work { result.work ≡ map (pivot_step (F.meaning field.now) k (slice_index_or self.work k [])) self.work }
+        ensures account { result.account ≡ map (pivot_step (F.meaning field.now) k (slice_index_or self.work k [])) self.account }
+    {
+        let pivot = self.work.as_slice()[k];
+        let code = pivot.as_slice()[k];
+        let factor = inverse_code(field, code);
+        let step = pivot.with(k, code ^ field.one());
+        self.changed(
+            field,
+            &Shear {
+                factor,
+                place: k,
+                step,
+            },
+        )
+    }
+
+    // One row of elimination, if row k has a pivot.
+    fn reduced<F: Field>(self, field: &F, k: usize) -> Option<Elimination>
+        requires { k < length self.work }
+        ensures { MatchOption result (NoPivot k (slice_index_or self.work k [])) (λ next. RowReduced (F.meaning field.now) k self.work self.account next.work next.account) }
+    {
+        let row = self.work.as_slice()[k];
+        let place = pivot_place(row.as_slice(), k)?;
+        Some(self.led(field, place, k).cleared(field, k))
+    }
+
+    // What the account is when all rows are units, if they can be made so.
+    fn account_of_all<F: Field>(self, field: &F) -> Option<Square>
+        ensures size { IfSome result (λ account. length account ≡ length self.work) }
+        ensures verdict { Laws (F.meaning field.now) → Squared (F.meaning field.now) (length self.work) self.work → self.account ≡ basis_from (on_bytes (F.meaning field.now)) (length self.work) 0 (length self.work) → MatchOption result (DecidesInverse (F.meaning field.now) (length self.work) self.work false []) (DecidesInverse (F.meaning field.now) (length self.work) self.work true) }
+    {
+        let mut state = self;
+        for k in 0..state.work.len() {
+            state = state.reduced(field, k)?;
+        }
+        Some(state.account)
+    }
+}
+
+/// The rows of the inverse of a linear map on blocks of n codes, if it is one to one.
+pub(crate) fn inverse_rows<F: Field>(field: &F, rows: &Square) -> Option<Square>
+    ensures size { IfSome result (λ inverse. length inverse ≡ length rows.now) }
+    ensures verdict { Laws (F.meaning field.now) → Squared (F.meaning field.now) (length rows.now) rows.now → MatchOption result (DecidesInverse (F.meaning field.now) (length rows.now) rows.now false []) (DecidesInverse (F.meaning field.now) (length rows.now) rows.now true) }
+{
+    let start = Elimination {
+        work: *rows,
+        account: Square::units(field, rows.len()),
+    };
+    start.account_of_all(field)
+}

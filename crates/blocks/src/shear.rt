@@ -1,0 +1,39 @@
+//! Steps of elimination that change every row in one way.
+ghost use Rattle.std.specs.Prelude.{◌≡◌, ◌<◌, map, length};
+ghost use Rattle.algebra.specs.Linear.{shear_row};
+ghost use Rattle.algebra.specs.Meaning.{on_bytes};
+
+use crate::block::Block;
+use crate::square::Square;
+use field::Field;
+
+/// What a row gains: its element at a place, times a factor, times a block.
+#[derive(Clone, Copy)]
+pub(crate) struct Shear {
+    pub(crate) factor: u8,
+    pub(crate) place: usize,
+    pub(crate) step: Block,
+}
+
+impl Shear {
+    // One row after the change.
+    fn row<F: Field>(&self, field: &F, row: Block) -> Block
+        requires place { self.now.place < length row }
+        requires size { length self.now.step ≡ length row }
+        ensures value { result ≡ shear_row (on_bytes (F.meaning field.now)) self.now.factor self.now.place self.now.step row }
+        ensures size { length result ≡ length row }
+    {
+        let multiple = field.product(self.factor, row.as_slice()[self.place]);
+        row.plus_multiple(field, multiple, self.step)
+    }
+
+    /// All rows after it.
+    pub(crate) fn rows<F: Field>(&self, field: &F, rows: &Square) -> Square
+        requires place { self.now.place < length rows.now }
+        requires size { length self.now.step ≡ length rows.now }
+        ensures value { result ≡ map (shear_row (on_bytes (F.meaning field.now)) self.now.factor self.now.place self.now.step) rows.now }
+        ensures size { length result ≡ length rows.now }
+    {
+        rows.changed(|row| self.row(field, row))
+    }
+}
