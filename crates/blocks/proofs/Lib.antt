@@ -6,3 +6,4 @@ mod Written
 mod Moduli
 mod Reduction
 mod Maps
+mod Parts

@@ -1,9 +1,9 @@
 -- What an affine map holds.
 -- Assumes nothing.
-use Rattle.std.proofs.Common.{◌≡◌, ℕ, true, false, List, length, sym, refl, ap, ◌∙◌, subst, ap₂}
+use Rattle.std.proofs.Common.{◌≡◌, ℕ, true, List, sym, refl, ap, ◌∙◌, subst, ap₂}
 use Rattle.algebra.specs.Affine.{affine, linear, Square, DecidesInverse}
 use Rattle.algebra.specs.Blocks.{IsBlock}
-use Rattle.algebra.specs.Meaning.{Meaning, Shape, Laws}
+use Rattle.algebra.specs.Meaning.{Meaning, Shape}
 use Rattle.algebra.proofs.Affine.{linear_block}
 use Rattle.blocks.specs.declared.affine_value.AffineMap.{AffineMap}
 use Rattle.blocks.specs.Maps.{size_of, constants_of, rows_of, image, MapCodes, UndoneBy}

@@ -1,18 +1,13 @@
 -- What a modulus holds.
 -- Assumes nothing.
-use Rattle.std.proofs.Common.{◌≡◌, ℕ, ◌-◌, ◌^◌, ◌<◌, ◌≤◌, Bool, true, List, length, take, Decides, sym, refl, ap, ◌∙◌, subst, le_refl, arith, length-take}
-use native.Mathlib.Nat.{sub-zero}
-use Rattle.algebra.specs.Arithmetic.{Formed, Lawful, Returns, block_operations}
+use Rattle.std.proofs.Common.{◌≡◌, ℕ, ◌^◌, Bool, true, List, length, Decides, sym, refl, ◌∙◌}
+use Rattle.algebra.specs.Arithmetic.{Lawful, Returns, block_operations}
 use Rattle.algebra.specs.Blocks.{Codes, IsBlock}
 use Rattle.algebra.specs.Iteration.{iterate}
 use Rattle.algebra.specs.Operations.{power}
-use Rattle.algebra.specs.Meaning.{Meaning, Shape, on_bytes}
-use Rattle.algebra.specs.Linear.{combination}
+use Rattle.algebra.specs.Meaning.{Meaning, on_bytes}
 use Rattle.algebra.specs.Modular.{variable, modulo, ModulusRule}
-use Rattle.algebra.specs.Tuples.{zeros}
-use Rattle.algebra.proofs.Linear.{rows_cut}
 use Rattle.algebra.proofs.Modular.{rule_iterated, rule_returns}
-use Rattle.algebra.proofs.Tuples.{length_zeros}
 use Rattle.blocks.specs.declared.modulus_value.Modulus.{Modulus}
 use Rattle.blocks.specs.Moduli.{coefficients, kept_rows, arithmetic_of, RuleVerdict}
 

@@ -1,5 +1,5 @@
 -- What a modulus stands for.
-use Rattle.std.specs.Prelude.{◌≡◌, ℕ, Bool, true, List, length, Decides}
+use Rattle.std.specs.Prelude.{◌≡◌, ℕ, Bool, true, List, Decides}
 use Rattle.algebra.specs.Arithmetic.{Arithmetic, Formed, Lawful, Returns}
 use Rattle.algebra.specs.Blocks.{Codes}
 use Rattle.algebra.specs.Iteration.{iterate}

@@ -55,9 +55,9 @@ impl Square {
         let mut rooms = [Block::zeros(size); WIDEST];
         let rows = &mut rooms[..size];
         let mut rest = bytes;
-        for row in rows.iter_mut() {
+        for place in rows.iter_mut() {
             let (front, behind) = rest.split_at(size);
-            *row = Block::from_bytes(front);
+            *place = Block::from_bytes(front);
             rest = behind;
         }
         Square::from_rows(rows)

@@ -1,5 +1,4 @@
-use Rattle.std.proofs.Common.{ap, ◌∙◌, length, ap₂}
-use Rattle.algebra.specs.Linear.{basis_from}
+use Rattle.std.proofs.Common.{ap, ◌∙◌, length}
 use Rattle.algebra.specs.Meaning.{on_bytes}
 use Rattle.algebra.proofs.Basis.{length_basis_from}
 use Rattle.blocks.proofs.elimination.inverse_rows.Goals as goal

@@ -1,4 +1,4 @@
-use Rattle.std.proofs.Common.{◌≡◌, ℕ, List, length, Decides, ap, ◌∙◌, subst, ap₂}
+use Rattle.std.proofs.Common.{◌≡◌, ℕ, List, Decides, ◌∙◌, subst, ap₂}
 use Rattle.algebra.specs.Iteration.{iterate}
 use Rattle.algebra.specs.Meaning.{on_bytes}
 use Rattle.algebra.specs.Modular.{variable}

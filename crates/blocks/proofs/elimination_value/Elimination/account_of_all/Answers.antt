@@ -1,4 +1,4 @@
-use Rattle.std.proofs.Common.{◌≡◌, ◌<◌, ◌≤◌, true, false, [], MatchOption, length, sym, refl, ◌∙◌, subst, arith}
+use Rattle.std.proofs.Common.{◌<◌, true, false, [], MatchOption, length, sym, refl, ◌∙◌, subst, arith}
 use Rattle.std.proofs.lemmas.Bool.{true≢false, false≢true}
 use Rattle.algebra.specs.Affine.{DecidesInverse}
 use Rattle.algebra.proofs.Affine.{Reducing, started, inverse_square, inverted}

@@ -1,6 +1,5 @@
-use Rattle.std.proofs.Common.{◌≡◌, ℕ, List, ◌∙◌, sym, refl, ap, subst, ap₂}
+use Rattle.std.proofs.Common.{ℕ, List, ◌∙◌, sym, refl, ap, subst, ap₂}
 use Rattle.algebra.specs.Arithmetic.{Lawful}
-use Rattle.algebra.specs.Meaning.{Meaning}
 use Rattle.algebra.specs.Modular.{modular, modulo, q_rows}
 use Rattle.algebra.proofs.Modular.{modulo_lawful}
 use Rattle.blocks.proofs.modulus_value.Modulus.new.Goals as goal

@@ -1,4 +1,4 @@
-use Rattle.std.proofs.Common.{◌≡◌, length}
+use Rattle.std.proofs.Common.{length}
 use Rattle.algebra.specs.Meaning.{on_bytes}
 use Rattle.algebra.specs.Tuples.{times}
 use Rattle.blocks.proofs.Written.{RowsTo}

@@ -1,4 +1,4 @@
-use Rattle.std.proofs.Common.{ℕ, List, ap, ◌∙◌, ap₂, rules}
+use Rattle.std.proofs.Common.{ℕ, List, ◌∙◌, ap₂, rules}
 use Rattle.algebra.specs.Iteration.{iterate}
 use Rattle.algebra.specs.Meaning.{on_bytes}
 use Rattle.algebra.specs.Modular.{x_to_q}

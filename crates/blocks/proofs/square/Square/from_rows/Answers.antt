@@ -1,5 +1,4 @@
-use Rattle.std.proofs.Common.{◌≡◌, List, ℕ, [], ◌++◌, length, drop, replicate, sym, refl, ap, ◌∙◌, subst}
-use Rattle.std.proofs.lemmas.List.{take_at}
+use Rattle.std.proofs.Common.{◌++◌, length, drop, replicate, sym, ap, subst}
 use Rattle.blocks.specs.Rooms.{Even, FillsSquare}
 use Rattle.blocks.proofs.Rooms.{square}
 use Rattle.blocks.proofs.square.Square.from_rows.Goals as goal

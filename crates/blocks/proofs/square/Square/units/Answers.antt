@@ -1,4 +1,4 @@
-use Rattle.std.proofs.Common.{◌≡◌, ℕ, ◌+◌, ◌<◌, List, [], ◌∷◌, ◌++◌, length, get_or, take, set, replicate, sym, refl, ap, ◌∙◌, ap₂, zero-add, arith, length-set}
+use Rattle.std.proofs.Common.{◌≡◌, ℕ, ◌+◌, ◌<◌, List, [], ◌∷◌, ◌++◌, length, set, sym, refl, ap, ◌∙◌, ap₂, zero-add, arith, length-set}
 use Rattle.std.proofs.lemmas.List.{take_more_set, take_all, length-replicate}
 use Rattle.algebra.specs.Linear.{basis, basis_from}
 use Rattle.algebra.specs.Meaning.{on_bytes}
