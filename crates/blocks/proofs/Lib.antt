@@ -1,4 +1,5 @@
 mod Rooms
+mod Moving
 mod Writing
 mod Coefficients
 mod Combinations

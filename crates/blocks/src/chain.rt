@@ -51,6 +51,7 @@ pub fn follow_chain<B: BlockArithmetic, S: Fn(usize, Block) -> Block>(
     ensures size { length result ≡ (B.arithmetic blocks.now).size }
 {
     let mut product = block;
+    // The bits of n, from the second highest down; they are no collection.
     for i in (0..n.ilog2()).rev() {
         product = blocks.multiply(advance(n >> (i + 1), product), product);
         if (n >> i) % 2 == 1 {

@@ -106,6 +106,7 @@ impl Elimination {
         ensures verdict { Laws (F.meaning field.now) → Squared (F.meaning field.now) (length self.work) self.work → self.account ≡ basis_from (on_bytes (F.meaning field.now)) (length self.work) 0 (length self.work) → MatchOption result (DecidesInverse (F.meaning field.now) (length self.work) self.work false []) (DecidesInverse (F.meaning field.now) (length self.work) self.work true) }
     {
         let mut state = self;
+        // Each row is reduced in what the rows before made of all of them, so no iterator over rows fits.
         for k in 0..state.work.len() {
             state = state.reduced(field, k)?;
         }

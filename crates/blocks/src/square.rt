@@ -88,6 +88,7 @@ impl Square {
     {
         let mut rooms = [Block::zeros(size); WIDEST];
         let rows = &mut rooms[..size];
+        // By index: it is also where the one stands, and an `enumerate` over `iter_mut` tells a proof nothing.
         for i in 0..size {
             rows[i] = Block::zeros(size).with(i, field.one());
         }

@@ -12,6 +12,7 @@ pub fn add_multiple<F: Field>(field: &F, factor: u8, block: &[u8], sum: &mut [u8
     ensures bytes { sum.new ≡ plus (on_bytes (F.meaning field.now)) (scale (on_bytes (F.meaning field.now)) factor block.now) sum.old }
     ensures codes { IsCode (F.meaning field.now) factor → Codes (F.meaning field.now) block.now → sum.new ≡ plus (operations (F.meaning field.now)) (scale (operations (F.meaning field.now)) factor block.now) sum.old }
 {
+    // By index: of what a zip over `iter_mut` writes the check knows nothing.
     for i in 0..sum.len() {
         sum[i] ^= field.product(factor, block[i]);
     }
@@ -25,8 +26,7 @@ pub fn multiply_by_x<F: Field>(field: &F, modulus: &[u8], block: &mut [u8])
     ensures codes { Codes (F.meaning field.now) block.old → Codes (F.meaning field.now) modulus.now → block.new ≡ times_x (operations (F.meaning field.now)) modulus.now block.old }
 {
     let top = block[block.len() - 1];
-    for i in (1..block.len()).rev() {
-        block[i] = block[i - 1] ^ field.product(top, modulus[i]);
-    }
-    block[0] = field.product(top, modulus[0]);
+    block.rotate_right(1);
+    block[0] = 0;
+    add_multiple(field, top, modulus, block);
 }
