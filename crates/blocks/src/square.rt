@@ -54,11 +54,9 @@ impl Square {
     {
         let mut rooms = [Block::zeros(size); WIDEST];
         let rows = &mut rooms[..size];
-        let mut rest = bytes;
-        for place in rows.iter_mut() {
-            let (front, behind) = rest.split_at(size);
-            *place = Block::from_bytes(front);
-            rest = behind;
+        // Where there are no rows, there are no bytes for a chunk of one.
+        for (i, row) in bytes.chunks_exact(size.max(1)).enumerate() {
+            rows[i] = Block::from_bytes(row);
         }
         Square::from_rows(rows)
     }

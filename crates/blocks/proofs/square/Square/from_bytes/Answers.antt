@@ -1,33 +1,49 @@
-use Rattle.std.proofs.Common.{◌≡◌, ◌+◌, ◌<◌, length, set, sym, ap, ◌∙◌, subst, arith}
-use Rattle.std.proofs.lemmas.List.{take_all, length-replicate}
-use Rattle.blocks.proofs.Parts.{Parted, none_parted, row_parted, all_parted}
+use Rattle.std.proofs.Common.{ℕ, ◌+◌, ◌<◌, List, ◌++◌, length, take, set, replicate, sym, ap, ◌∙◌, subst}
+use Rattle.std.proofs.lemmas.List.{length-replicate}
+use Rattle.std.specs.Iterator.Adapters.{enumerate_source, enumerate_count}
+use Rattle.std.specs.Slice.Iter.{chunks_exact_rest, chunks_exact_size}
+use Rattle.blocks.proofs.Parts.{Parted, none_parted, chunk_parted, all_parted}
 use Rattle.blocks.proofs.Rooms.{part, long_part, long_set}
 use Rattle.blocks.proofs.square.Square.from_bytes.Goals as goal
 
-pub loop-place-init : goal.loop-place-init
-loop-place-init c =
+pub loop-i-init : goal.loop-i-init
+loop-i-init c =
     let n = c.args.size in
-    (none_parted n c.args.bytes.now _ c.requires.bytes, long_part c.zeros-rooms.result n n c.requires.few (ap length c.zeros-rooms.ensures ∙ length-replicate n 0))
+    let bytes = c.args.bytes.now in
+    let start = c.into_iter-i-iterator.ensures.into_iter_gives in
+    let source = ap enumerate_source start ∙ c.enumerate-i-items.ensures.source in
+    let none = none_parted n bytes (take n (replicate 32 c.zeros-rooms.result)) c.requires.bytes in (
+      subst (λ k. Parted n bytes k (take n (replicate 32 c.zeros-rooms.result)) (chunks_exact_rest (enumerate_source c.into_iter-i-iterator.result)))
+          (sym (ap enumerate_count start ∙ c.enumerate-i-items.ensures.count))
+          (subst (Parted n bytes 0 (take n (replicate 32 c.zeros-rooms.result))) (sym (ap chunks_exact_rest source ∙ c.chunks_exact.ensures.rest)) none),
+      ap chunks_exact_size source ∙ c.chunks_exact.ensures.size ∙ c.max.ensures,
+      long_part c.zeros-rooms.result n n c.requires.few (ap length c.zeros-rooms.ensures ∙ length-replicate n 0),
+    )
 
-pub loop-place-preserved : goal.loop-place-preserved
-loop-place-preserved c =
+pub loop-i-preserved : goal.loop-i-preserved
+loop-i-preserved c =
     let n = c.args.size in
-    let i = c.loop-place.place-index in
-    let rows = c.loop-place.rows in
-    let all = part c.zeros-rooms.result n c.requires.few in
-    let less : i < n = subst (λ m. i < m) all c.loop-place-test.true in
-    let inside : i < length rows = omega (arith, c.loop-place.auto.rows, all, less) in
-    let row = c.from_bytes.ensures ∙ c.split_at.ensures.front in (
-      subst (Parted n c.args.bytes.now (i + 1) (set rows i c.from_bytes.result)) (sym c.split_at.ensures.back)
-          (row_parted n c.args.bytes.now i rows c.loop-place.rest.now c.from_bytes.result c.loop-place.invariant.0 less inside row),
-      long_set rows i n c.from_bytes.result c.loop-place.invariant.1 (ap length c.from_bytes.ensures ∙ c.split_at.ensures.front_len),
+    let bytes = c.args.bytes.now in
+    let rows = c.loop-i.rows in
+    let row = c.from_bytes.result in
+    let left = chunks_exact_rest (enumerate_source c.next.new.self) in
+    let inv = c.loop-i.invariant in
+    let steps = c.in-Some.ensures.steps in
+    let count = enumerate_count c.loop-i.i-iterator in
+    let next
+    = chunk_parted n bytes count rows (chunks_exact_rest (enumerate_source c.loop-i.i-iterator)) row left inv.0
+    (steps.0.1.0 ∙ ap (λ (r : List ℕ). r ++ left) (sym c.from_bytes.ensures))
+    (ap length c.from_bytes.ensures ∙ steps.0.1.1 ∙ inv.1) (c.loop-i.auto.rows ∙ part c.zeros-rooms.result n c.requires.few) in (
+      subst (λ k. Parted n bytes k (set rows c.in-Some.i row) left) (sym steps.2) (subst (λ j. Parted n bytes (count + 1) (set rows j row) left) (sym steps.1) next.1),
+      steps.0.0 ∙ inv.1,
+      long_set rows c.in-Some.i n row inv.2 next.0,
     )
 
 pub returns-clause-value : goal.returns-clause-value
 returns-clause-value c =
     let n = c.args.size in
-    let rows = c.loop-place.rows in
-    let tall : length rows ≡ n = c.loop-place.auto.rows ∙ part c.zeros-rooms.result n c.requires.few in
-    let end : c.loop-place.place-index ≡ n = omega (arith, c.loop-place.auto.place-index-end, c.loop-place-test.false, c.loop-place.auto.rows, tall) in
-    c.from_rows.ensures ∙ sym (take_all n rows (omega (arith, tall)))
-    ∙ all_parted n c.args.bytes.now rows c.loop-place.rest.now (subst (λ i. Parted n c.args.bytes.now i rows c.loop-place.rest.now) end c.loop-place.invariant.0)
+    let rows = c.loop-i.rows in
+    let inv = c.loop-i.invariant in
+    let few = c.in-None.ensures.steps.0.1.0 in
+    let tall = c.loop-i.auto.rows ∙ part c.zeros-rooms.result n c.requires.few in
+    c.from_rows.ensures ∙ all_parted n c.args.bytes.now _ rows _ inv.0 (subst (λ m. length (chunks_exact_rest (enumerate_source c.loop-i.i-iterator)) < m) inv.1 few) tall
