@@ -32,7 +32,7 @@ impl AffineMap {
         ensures value { result ≡ size_of self.now }
         ensures few { result ≤ 32 }
     {
-        self.constants.len()
+        self.constants.size()
     }
 
     /// The image of a block: the constants plus, for each i, the code at place i times row i.

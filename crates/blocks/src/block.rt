@@ -58,7 +58,7 @@ impl Block {
     }
 
     /// How many bytes it has.
-    pub fn len(&self) -> usize
+    pub fn size(&self) -> usize
         ensures value { result ≡ length self.now }
         ensures few { result ≤ 32 }
     {

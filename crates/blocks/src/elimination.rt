@@ -59,7 +59,7 @@ impl Elimination {
             return self;
         }
         let one = field.one();
-        let step = Block::zeros(self.work.len()).with(k, one);
+        let step = Block::zeros(self.work.size()).with(k, one);
         self.changed(
             field,
             &Shear {
@@ -107,7 +107,7 @@ impl Elimination {
     {
         let mut state = self;
         // Each row is reduced in what the rows before made of all of them, so no iterator over rows fits.
-        for k in 0..state.work.len() {
+        for k in 0..state.work.size() {
             state = state.reduced(field, k)?;
         }
         Some(state.account)
@@ -121,7 +121,7 @@ pub(crate) fn inverse_rows<F: Field>(field: &F, rows: &Square) -> Option<Square>
 {
     let start = Elimination {
         work: *rows,
-        account: Square::units(field, rows.len()),
+        account: Square::units(field, rows.size()),
     };
     start.account_of_all(field)
 }

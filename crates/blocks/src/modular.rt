@@ -31,7 +31,7 @@ impl<'f, 'm, F: Field> BlockArithmetic for Modular<'f, 'm, F> {
     }
 
     fn size(&self) -> usize {
-        self.modulus.low.len()
+        self.modulus.low.size()
     }
 
     fn multiply(&self, a: Block, b: Block) -> Block {
@@ -45,7 +45,7 @@ impl<'f, 'm, F: Field> BlockArithmetic for Modular<'f, 'm, F> {
     fn raise_to_q(&self, block: Block) -> Block {
         combined(
             self.field,
-            Block::zeros(self.modulus.low.len()),
+            Block::zeros(self.modulus.low.size()),
             &self.modulus.rows,
             block,
         )

@@ -27,7 +27,7 @@ impl<F: Field> Quotient<'_, F> {
         ensures size { length result ≡ length self.now.low }
     {
         let mut room = [0u8; WIDEST];
-        let product = &mut room[..b.len()];
+        let product = &mut room[..b.size()];
         multiply(
             self.field,
             self.low.as_slice(),
@@ -43,7 +43,7 @@ impl<F: Field> Quotient<'_, F> {
         ensures value { result ≡ unit (on_bytes (F.meaning self.now.field.now)) (length self.now.low) }
         ensures size { length result ≡ length self.now.low }
     {
-        Block::zeros(self.low.len()).with(0, self.field.one())
+        Block::zeros(self.low.size()).with(0, self.field.one())
     }
 
     /// X.
@@ -53,7 +53,7 @@ impl<F: Field> Quotient<'_, F> {
     {
         let one = self.one();
         let mut room = [0u8; WIDEST];
-        let x = &mut room[..one.len()];
+        let x = &mut room[..one.size()];
         x.copy_from_slice(one.as_slice());
         multiply_by_x(self.field, self.low.as_slice(), x);
         Block::from_bytes(x)
@@ -76,7 +76,7 @@ impl<F: Field> Quotient<'_, F> {
         let factor = self.x_to_q();
         let mut power = self.one();
         let mut rooms = [power; WIDEST];
-        let rows = &mut rooms[..self.low.len()];
+        let rows = &mut rooms[..self.low.size()];
         for row in rows.iter_mut() {
             *row = power;
             power = self.product(factor, power);

@@ -72,7 +72,7 @@ impl Square {
     }
 
     /// How many rows it has.
-    pub(crate) fn len(&self) -> usize
+    pub(crate) fn size(&self) -> usize
         ensures value { result ≡ length self.now }
         ensures few { result ≤ 32 }
     {

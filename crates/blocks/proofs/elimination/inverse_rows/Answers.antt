@@ -5,5 +5,5 @@ use Rattle.blocks.proofs.elimination.inverse_rows.Goals as goal
 
 pub invariant_of-start : goal.invariant_of-start
 invariant_of-start g c = record {
-  alike = ap length c.units.ensures ∙ length_basis_from (on_bytes (g.F.Field.meaning c.args.field.now)) c.len.result 0 c.len.result ∙ c.len.ensures.value;
+  alike = ap length c.units.ensures ∙ length_basis_from (on_bytes (g.F.Field.meaning c.args.field.now)) c.size.result 0 c.size.result ∙ c.size.ensures.value;
 }

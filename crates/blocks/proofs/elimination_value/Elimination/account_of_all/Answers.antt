@@ -20,7 +20,7 @@ loop-k-preserved g c =
     let M = g.F.Field.meaning x in
     let rows = c.args.self.work in
     let inv = c.loop-k.invariant in
-    let less : c.loop-k.k < length rows = omega (arith, c.loop-k-test.true, c.len-k-end.ensures.value) in
+    let less : c.loop-k.k < length rows = omega (arith, c.loop-k-test.true, c.size-k-end.ensures.value) in
     let W = c.loop-k.state.work in
     let C = c.loop-k.state.account in
     let next = c.in_ok-state.state in (
@@ -35,7 +35,7 @@ returns-in_err-state-clause-verdict g c laws square units =
     let M = g.F.Field.meaning x in
     let rows = c.args.self.work in
     let inv = c.loop-k.invariant in
-    let less : c.loop-k.k < length rows = omega (arith, c.loop-k-test.true, c.len-k-end.ensures.value) in
+    let less : c.loop-k.k < length rows = omega (arith, c.loop-k-test.true, c.size-k-end.ensures.value) in
     subst (λ r. MatchOption r (DecidesInverse M (length rows) rows false []) (DecidesInverse M (length rows) rows true)) (sym c.from_residual.ensures)
     (record {
       square = λ e. absurd (false≢true e);
@@ -54,6 +54,6 @@ returns-clause-verdict g c laws square units =
     let red = c.loop-k.invariant.1 laws square units in
     record {
       square = λ e. inverse_square M s n laws rows k c.loop-k.state.work c.loop-k.state.account red;
-      inverts = λ e constants h. inverted M s n laws rows k c.loop-k.state.work c.loop-k.state.account red constants h (omega (arith, c.loop-k-test.false, c.len-k-end.ensures.value));
+      inverts = λ e constants h. inverted M s n laws rows k c.loop-k.state.work c.loop-k.state.account red constants h (omega (arith, c.loop-k-test.false, c.size-k-end.ensures.value));
       fails = λ e. absurd (true≢false e);
     }

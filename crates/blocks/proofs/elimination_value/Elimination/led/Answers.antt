@@ -34,7 +34,7 @@ returns g c =
     let M = g.F.Field.meaning c.args.field.now in
     let n = length c.args.self.work in
     let moved = moves M n c.args.place c.args.k c.one-one.result c.with-step.result in
-    let step = c.with-step.ensures ∙ ap (λ l. set l c.args.k c.one-one.result) (c.zeros.ensures ∙ ap (λ m. replicate m 0) c.len.ensures.value) in
+    let step = c.with-step.ensures ∙ ap (λ l. set l c.args.k c.one-one.result) (c.zeros.ensures ∙ ap (λ m. replicate m 0) c.size.ensures.value) in
     record {
       work = moved c.args.self.work c.changed.result.work c.if-place-k.false c.one-one.ensures step c.changed.ensures.work;
       account = moved c.args.self.account c.changed.result.account c.if-place-k.false c.one-one.ensures step c.changed.ensures.account;

@@ -9,4 +9,4 @@ pub returns-clause-value : goal.returns-clause-value
 returns-clause-value g c =
     let M = g.F.Field.meaning c.args.self.now.field.now in
     c.combined.ensures.value
-    ∙ ap (λ z. combination (on_bytes M) z c.args.self.now.modulus.now.rows c.args.block) (c.zeros.ensures ∙ zeros_are M c.len.result ∙ ap (zeros (on_bytes M)) c.len.ensures.value)
+    ∙ ap (λ z. combination (on_bytes M) z c.args.self.now.modulus.now.rows c.args.block) (c.zeros.ensures ∙ zeros_are M c.size.result ∙ ap (zeros (on_bytes M)) c.size.ensures.value)

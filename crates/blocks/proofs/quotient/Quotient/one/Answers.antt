@@ -15,5 +15,5 @@ pub returns : goal.returns
 returns g c =
     let M = g.F.Field.meaning c.args.self.now.field.now in
     let n = length c.args.self.now.low in
-    let value = c.with.ensures ∙ ap₂ (λ (l : List ℕ) (x : ℕ). set l 0 x) (c.zeros.ensures ∙ ap (λ n. replicate n 0) c.len.ensures.value) c.one.ensures ∙ written M n c.args.self.now.some in
+    let value = c.with.ensures ∙ ap₂ (λ (l : List ℕ) (x : ℕ). set l 0 x) (c.zeros.ensures ∙ ap (λ n. replicate n 0) c.size.ensures.value) c.one.ensures ∙ written M n c.args.self.now.some in
     record { value = value; size = ap length value ∙ length_unit (on_bytes M) n }

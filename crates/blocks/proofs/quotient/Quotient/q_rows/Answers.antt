@@ -10,7 +10,7 @@ use Rattle.blocks.proofs.quotient.Quotient.q_rows.Goals as goal
 pub loop-row-init : goal.loop-row-init
 loop-row-init g c =
     no_rows (times (on_bytes (g.F.Field.meaning c.args.self.now.field.now)) c.args.self.now.low) (length c.args.self.now.low) c.x_to_q-factor.result c.one-power.result
-    (take c.len.result (replicate 32 c.one-power.result)) c.one-power.ensures.size
+    (take c.size.result (replicate 32 c.one-power.result)) c.one-power.ensures.size
 
 pub product-power-requires : goal.product-power-requires
 product-power-requires g c = c.loop-row.invariant.size
@@ -22,7 +22,7 @@ loop-row-preserved g c =
 
 pub from_rows-requires-clause-even : goal.from_rows-requires-clause-even
 from_rows-requires-clause-even g c i h =
-    let tall : length c.loop-row.rows ≡ length c.args.self.now.low = c.loop-row.auto.rows ∙ part c.one-power.result c.len.result c.len.ensures.few ∙ c.len.ensures.value in
+    let tall : length c.loop-row.rows ≡ length c.args.self.now.low = c.loop-row.auto.rows ∙ part c.one-power.result c.size.result c.size.ensures.few ∙ c.size.ensures.value in
     c.loop-row.invariant.even i (omega (arith, c.loop-row-test.false, c.loop-row.auto.rows)) ∙ sym tall
 
 pub returns : goal.returns
@@ -31,7 +31,7 @@ returns g c =
     let f = c.args.self.now.low in
     let P = times (on_bytes (g.F.Field.meaning c.args.self.now.field.now)) f in
     let inv = c.loop-row.invariant in
-    let tall : length c.loop-row.rows ≡ length f = c.loop-row.auto.rows ∙ part c.one-power.result c.len.result c.len.ensures.few ∙ c.len.ensures.value in
+    let tall : length c.loop-row.rows ≡ length f = c.loop-row.auto.rows ∙ part c.one-power.result c.size.result c.size.ensures.few ∙ c.size.ensures.value in
     let all : length c.loop-row.rows ≤ c.loop-row.row-index = omega (arith, c.loop-row-test.false, c.loop-row.auto.rows) in
     let end : c.loop-row.row-index ≡ length f = omega (arith, c.loop-row.auto.row-index-end, c.loop-row.auto.rows, tall, all) in
     let value
