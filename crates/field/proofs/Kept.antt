@@ -1,76 +1,43 @@
 -- What a shift field keeps, against its meaning.
 -- Assumes nothing.
-use Rattle.std.proofs.Common.{◌≡◌, ℕ, ◌-◌, ◌%◌, ◌^◌, ◌<◌, ◌≤◌, Bool, true, false, cond, length, sym, refl, ap, ◌∙◌, subst, ap₂, arith, pow_pos}
-use mathlib.Core.Bool.{xor}
-use lib.Bits.{bit_and, and_mask, mask_lt, and_zero_r}
-use Rattle.algebra.specs.Tuples.{plus, scale, zeros, up, last, times_x, times}
+use Rattle.std.proofs.Common.{◌≡◌, ℕ, ◌%◌, ◌^◌, ◌<◌, Bool, true, false, cond, length, sym, refl, ap, ◌∙◌, subst, ap₂}
+use Rattle.std.specs.Option.{MatchOption}
+use lib.Bits.{bit_and, and_mask, mask_lt}
+use Rattle.algebra.specs.Tuples.{times}
 use Rattle.algebra.specs.Bits.{two, bits, number}
-use Rattle.algebra.specs.Meaning.{as_code, dead}
-use Rattle.algebra.specs.Shift.{in_range, highest_bit, degree, shift_product, shift_by, shift}
+use Rattle.algebra.specs.Meaning.{Meaning, as_code, dead}
+use Rattle.algebra.specs.Shift.{in_range, degree, shift_product, shift_by, shift}
 use Rattle.algebra.proofs.Tuples.{length_times}
 use Rattle.algebra.proofs.Bits.{length_bits, number_lt}
-use Rattle.algebra.proofs.Degree.{Highest, degree_is, degree_positive, range}
+use Rattle.algebra.proofs.Degree.{shift_live}
+use Rattle.field.specs.declared.polynomial.Polynomial.{Polynomial}
+use Rattle.field.specs.declared.shift_value.Shift.{Shift}
+use Rattle.field.proofs.Answers.{answered}
+use Rattle.field.specs.declared.residues.Residues.{Residues}
 
-module _ (p m w k : ℕ) (kept : m ≡ cond (in_range p) p 2) (measured : w ≡ degree m) (masked : k ≡ cond (in_range p) (2 ^ degree p - 1) 0) where
-  -- the modulus that is kept makes a field's modulus, whatever p is
-  pub modulus_range : (2 ≤ m) × (m ≤ 511)
-  modulus_range = by (in_range p) refl
-    where
-      by : (b : Bool) → in_range p ≡ b → (2 ≤ m) × (m ≤ 511)
-      by true e = let is : m ≡ p = kept ∙ ap (λ b. cond b p 2) e in let r = range p e in (omega arith, omega arith)
-      by false e = let is : m ≡ 2 = kept ∙ ap (λ b. cond b p 2) e in (omega arith, omega arith)
+pub live : (p : Polynomial) → shift p.coefficients ≡ shift_by true p.coefficients
+live p = shift_live p.coefficients p.low p.high
 
-  pub width_range : Highest 8 m w
-  width_range = subst (Highest 8 m) (sym measured) (degree_is m modulus_range.0 modulus_range.1)
+pub width_is : (p : Polynomial) → p.width ≡ (shift p.coefficients).width
+unfolding shift_by
+width_is p = p.measured ∙ sym (ap (λ M. M.width) (live p))
 
-  pub width_positive : 1 ≤ w
-  width_positive = subst (λ n. 1 ≤ n) (sym measured) (degree_positive m modulus_range.0 modulus_range.1)
+-- an operand less its high bits
+pub low_is : (s : Residues) (a : ℕ) → bit_and a s.mask ≡ a % 2 ^ degree s.modulus.coefficients
+low_is s a = ap (bit_and a) s.masked ∙ and_mask a s.modulus.width ∙ ap (λ w. a % 2 ^ w) s.modulus.measured
 
-  pub width_is : w ≡ (shift p).width
-  unfolding shift shift_by dead
-  width_is = by (in_range p) refl
-    where
-      by : (b : Bool) → in_range p ≡ b → w ≡ (shift_by b p).width
-      by true e = measured ∙ ap degree (kept ∙ ap (λ b. cond b p 2) e)
-      by false e = measured ∙ ap degree (kept ∙ ap (λ b. cond b p 2) e) ∙ unfold degree highest_bit in refl
+pub operand_lt : (s : Residues) (a : ℕ) → bit_and a s.mask < 2 ^ s.modulus.width
+operand_lt s a = subst (λ z. bit_and a z < 2 ^ s.modulus.width) (sym s.masked) (mask_lt a s.modulus.width)
 
-  -- an operand less its high bits, or nothing of it
-  pub operand_lt : (a : ℕ) → bit_and a k < 2 ^ w
-  operand_lt a = by (in_range p) refl
-    where
-      by : (b : Bool) → in_range p ≡ b → bit_and a k < 2 ^ w
-      by true e =
-          let w-is : w ≡ degree p = measured ∙ ap degree (kept ∙ ap (λ b. cond b p 2) e) in
-          let k-is : k ≡ 2 ^ w - 1 = masked ∙ ap (λ b. cond b (2 ^ degree p - 1) 0) e ∙ ap (λ n. 2 ^ n - 1) (sym w-is) in
-          subst (λ z. bit_and a z < 2 ^ w) (sym k-is) (mask_lt a w)
-      by false e =
-          let k-is : k ≡ 0 = masked ∙ ap (λ b. cond b (2 ^ degree p - 1) 0) e in
-          subst (λ z. z < 2 ^ w) (sym (ap (bit_and a) k-is ∙ and_zero_r a)) (pow_pos w)
-
-  pub product_is : (a b : ℕ)
-      → number (times two (bits w m) (bits w (bit_and a k)) (bits w (bit_and b k))) ≡ (shift p).product (as_code (shift p) a) (as_code (shift p) b)
-  unfolding shift as_code
-  product_is a b = by (in_range p) refl
-    where
-      by : (t : Bool) → in_range p ≡ t
-          → number (times two (bits w m) (bits w (bit_and a k)) (bits w (bit_and b k)))
-          ≡ (shift_by t p).product (a % 2 ^ (shift_by t p).width) (b % 2 ^ (shift_by t p).width)
-      by true e =
-          let m-is : m ≡ p = kept ∙ ap (λ b. cond b p 2) e in
-          let w-is : w ≡ degree p = measured ∙ ap degree m-is in
-          let k-is : k ≡ 2 ^ degree p - 1 = masked ∙ ap (λ b. cond b (2 ^ degree p - 1) 0) e in
-          let low : (x : ℕ) → bit_and x k ≡ x % 2 ^ degree p = λ x. ap (bit_and x) k-is ∙ and_mask x (degree p) in
-          ap₂ (λ w m. number (times two (bits w m) (bits w (bit_and a k)) (bits w (bit_and b k)))) w-is m-is
-          ∙ ap₂ (λ x y. number (times two (bits (degree p) p) (bits (degree p) x) (bits (degree p) y))) (low a) (low b)
-          ∙ unfold shift_by shift_product in refl
-      by false e =
-          let m-is : m ≡ 2 = kept ∙ ap (λ b. cond b p 2) e in
-          let w-is : w ≡ 1 = measured ∙ ap degree m-is ∙ unfold degree highest_bit in refl in
-          let k-is : k ≡ 0 = masked ∙ ap (λ b. cond b (2 ^ degree p - 1) 0) e in
-          let low : (x : ℕ) → bit_and x k ≡ 0 = λ x. ap (bit_and x) k-is ∙ and_zero_r x in
-          ap₂ (λ w m. number (times two (bits w m) (bits w (bit_and a k)) (bits w (bit_and b k)))) w-is m-is
-          ∙ ap₂ (λ x y. number (times two (bits 1 2) (bits 1 x) (bits 1 y))) (low a) (low b)
-          ∙ unfold shift_by dead number times times_x two xor bits plus scale up last zeros in refl
+pub product_is : (s : Residues) (a b : ℕ)
+    → number (times two (bits s.modulus.width s.modulus.coefficients) (bits s.modulus.width (bit_and a s.mask)) (bits s.modulus.width (bit_and b s.mask)))
+    ≡ (shift s.modulus.coefficients).product (as_code (shift s.modulus.coefficients) a) (as_code (shift s.modulus.coefficients) b)
+unfolding as_code shift_by shift_product
+product_is s a b =
+    let p = s.modulus.coefficients in
+    ap (λ w. number (times two (bits w p) (bits w (bit_and a s.mask)) (bits w (bit_and b s.mask)))) s.modulus.measured
+    ∙ ap₂ (λ x y. number (times two (bits (degree p) p) (bits (degree p) x) (bits (degree p) y))) (low_is s a) (low_is s b)
+    ∙ sym (ap (λ M. M.product (as_code M a) (as_code M b)) (live s.modulus))
 
 -- a product modulo a modulus of degree w is below 2^w
 pub product_lt : (w m n a b : ℕ) → number (times two (bits w m) (bits n a) (bits w b)) < 2 ^ w
@@ -78,6 +45,17 @@ product_lt w m n a b =
     let t = times two (bits w m) (bits n a) (bits w b) in
     let h : length t ≡ w = length_times two (bits w m) (bits n a) (bits w b) (length_bits w b ∙ sym (length_bits w m)) ∙ length_bits w m in
     subst (λ n. number t < 2 ^ n) h (number_lt t)
+
+-- what is asked of a shift field is asked of the polynomial that is kept, or of the dead field
+pub shift_answer : {R : Type 0} (get : Meaning → R) (s : Shift) (r : R)
+    → MatchOption s.residues (r ≡ get dead) (λ x. r ≡ get (shift x.modulus.coefficients)) → r ≡ get (shift s.number)
+unfolding shift shift_by
+shift_answer get s r is =
+    answered s.residues (λ x. x.modulus.coefficients) (in_range s.number) s.number (λ n. get (shift n)) (get dead) r s.made is ∙ by (in_range s.number) refl
+  where
+    by : (b : Bool) → in_range s.number ≡ b → cond b (get (shift_by (in_range s.number) s.number)) (get dead) ≡ get (shift_by (in_range s.number) s.number)
+    by true e = refl
+    by false e = ap (λ b. get (shift_by b s.number)) (sym e)
 
 pub one_is : (p : ℕ) → 1 ≡ (shift p).one
 unfolding shift shift_by dead

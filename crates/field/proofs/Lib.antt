@@ -1,7 +1,11 @@
 mod Words
 mod Turns
+mod Widths
+mod Answers
 mod Kept
-mod Factors
 mod LookUps
 mod Places
-mod Pairs
+mod Searches
+mod Factors
+mod Choices
+mod Halves

@@ -1,10 +1,13 @@
 //! Fields of up to 256 elements: what a field is, and the makes of it.
 #![tactic(auto)]
 
-mod binary;
 mod interface;
+mod logarithms;
+mod pairs;
+mod polynomial;
 mod power_table_field;
 mod power_table_value;
+mod residues;
 mod shift_field;
 mod shift_value;
 mod standard;

@@ -1,17 +1,13 @@
-ghost use Rattle.std.specs.Prelude.{◌≡◌, ◌-◌, ◌^◌, if◌then◌else◌};
-ghost use Rattle.algebra.specs.Shift.{in_range, degree, shift};
+ghost use Rattle.std.specs.Prelude.{◌≡◌, Some, None, if◌then◌else◌, option_map};
+ghost use Rattle.algebra.specs.Shift.{in_range};
+
+use crate::residues::Residues;
 
 /// The shift field of a number p: polynomials over two elements modulo the polynomial whose coefficients are the bits of p.
-/// It keeps what every product needs; where p makes no field, a modulus that is never felt, since the mask leaves nothing of an operand.
+/// It keeps what every product needs; nothing where p makes no field.
 #[derive(Clone, Copy)]
 pub struct Shift {
     pub(crate) number: u32,
-    pub(crate) modulus: u32,
-    pub(crate) width: u8,
-    pub(crate) mask: u8,
-    pub(crate) sound: bool,
-    ghost kept: { modulus ≡ (if in_range number then number else 2) },
-    ghost measured: { width ≡ degree modulus },
-    ghost masked: { mask ≡ (if in_range number then 2 ^ degree number - 1 else 0) },
-    ghost judged: { sound ≡ (shift number).sound },
+    pub(crate) residues: Option<Residues>,
+    ghost made: { option_map (λ r. r.modulus.coefficients) residues ≡ (if in_range number then Some number else None) },
 }

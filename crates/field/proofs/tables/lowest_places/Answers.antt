@@ -1,10 +1,10 @@
-use Rattle.std.proofs.Common.{◌≡◌, ◌+◌, ◌-◌, sym, refl, ap, ◌∙◌, arith, length-set, get_or-set_other, get_or-set_same}
+use Rattle.std.proofs.Common.{◌≡◌, ◌+◌, ◌-◌, None, sym, refl, ap, ◌∙◌, arith, length-set, get_or-set_other, get_or-set_same}
 use lib.ListN.{get_or-replicate}
 use Rattle.field.proofs.Places.{lowest_from, lowest_end, lowest_all, written}
 use Rattle.field.proofs.tables.lowest_places.Goals as goal
 
 pub loop-k-init : goal.loop-k-init
-loop-k-init c = (refl, λ a h. get_or-replicate 256 a 255 0 h ∙ sym (lowest_end c.args.powers.now c.args.places a))
+loop-k-init c = (refl, λ a h. get_or-replicate 256 a None None h ∙ sym (lowest_end c.args.powers.now c.args.places a))
 
 pub loop-k-preserved : goal.loop-k-preserved
 loop-k-preserved c =
@@ -25,9 +25,9 @@ returns c =
     let inv = c.loop-k.invariant in
     let done : c.loop-k.k ≡ 0 = omega (arith, c.loop-k-test.false) in
     record {
-      whole = length-set logs 0 255 ∙ inv.0;
-      zero = get_or-set_same logs 0 255 0 (omega (arith, inv.0));
+      whole = length-set logs 0 None ∙ inv.0;
+      zero = get_or-set_same logs 0 None None (omega (arith, inv.0));
       lowest = λ a pos h.
-          get_or-set_other logs 0 a 255 0 (λ e. omega arith) ∙ inv.1 a h
+          get_or-set_other logs 0 a None None (λ e. omega arith) ∙ inv.1 a h
           ∙ ap (λ i. lowest_from powers c.args.places i a) done ∙ lowest_all powers c.args.places a;
     }

@@ -1,9 +1,8 @@
-use Rattle.std.proofs.Common.{sym, ap, ◌∙◌}
+use Rattle.std.proofs.Common.{rules}
 use Rattle.algebra.specs.Shift.{in_range}
-use Rattle.field.proofs.LookUps.{no_mask}
+use Rattle.field.proofs.Choices.{made}
 use Rattle.field.proofs.power_table_value.PowerTable.new.Goals as goal
 
-pub dead-requires : goal.dead-requires
-dead-requires c =
-    let s = c.new-base.result in
-    ap in_range (sym c.new-base.ensures) ∙ no_mask s.number 0 s.mask s.masked c.if-base-eq0.true
+pub invariant_of-result : goal.invariant_of-result
+invariant_of-result c =
+    record { made = made c.of.result c.map.result (in_range c.args.number) c.args.number c.args.generator c.of.ensures (search rules) }

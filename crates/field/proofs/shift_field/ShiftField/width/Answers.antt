@@ -1,7 +1,8 @@
-use Rattle.field.proofs.Kept.{width_is}
+use Rattle.std.proofs.Common.{rules}
+use Rattle.algebra.specs.Meaning.{dead}
+use Rattle.field.proofs.Kept.{shift_answer, width_is}
 use Rattle.field.proofs.shift_field.ShiftField.width.Goals as goal
 
 pub returns : goal.returns
-returns c =
-    let s = c.args.self.now in
-    width_is s.number s.modulus s.width s.mask s.kept s.measured s.masked
+unfolding dead
+returns c = shift_answer (λ M. M.width) c.args.self.now c.map_or.result (search (rules, width_is))

@@ -1,32 +1,17 @@
-use Rattle.std.proofs.Common.{◌≡◌, ℕ, ◌<◌, ◌≤◌, not, ◌&&◌, sym, ap, ◌∙◌, subst}
-use Rattle.std.proofs.lemmas.Bool.{and_left}
-use Rattle.algebra.specs.Meaning.{Meaning, low_bits, dead}
-use Rattle.algebra.specs.Tower.{has_root, tower_by, tower}
-use Rattle.field.proofs.Pairs.{tower_narrow, tower_wide}
+use Rattle.std.proofs.Common.{◌≡◌, not, ◌&&◌, sym, ap, ◌∙◌, rules}
+use Rattle.algebra.specs.Meaning.{dead}
+use Rattle.algebra.specs.Tower.{has_root, tower_by}
+use Rattle.field.proofs.Answers.{both_match}
+use Rattle.field.proofs.Halves.{tower_narrow, tower_wide}
 use Rattle.field.proofs.tower_field.TowerField.sound.Goals as goal
 
-verdict : (M : Meaning) (c : ℕ) → M.width ≤ 4 → (tower M c).sound ≡ (M.sound && not (has_root M (low_bits M.width c)))
-unfolding tower_by
-verdict M c narrow = ap (λ N. N.sound) (tower_narrow M c narrow)
-
-pub returns-then-m-gt-WIDEST : goal.returns-then-m-gt-WIDEST
-unfolding dead
-returns-then-m-gt-WIDEST g c =
+pub returns : goal.returns
+unfolding dead tower_by
+returns g c =
     let t = c.args.self.now in
-    sym (ap (λ N. N.sound) (tower_wide (g.F.Field.meaning t.base) t.c (subst (λ w. 4 < w) c.width-m.ensures c.if-m-gt-WIDEST.true)))
-
-pub returns-then-sound : goal.returns-then-sound
-returns-then-sound g c =
-    let t = c.args.self.now in
-    let M = g.F.Field.meaning t.base in
-    ap not (c.has_root.ensures ∙ ap (has_root M) (c.element.ensures ∙ ap (λ w. low_bits w t.c) c.width-m.ensures))
-    ∙ ap (λ b. b && not (has_root M (low_bits M.width t.c))) (sym (sym c.sound.ensures ∙ c.if-sound.true))
-    ∙ sym (verdict M t.c (subst (λ w. w ≤ 4) c.width-m.ensures c.if-m-gt-WIDEST.false))
-
-pub returns-else-sound : goal.returns-else-sound
-returns-else-sound g c =
-    let t = c.args.self.now in
-    let M = g.F.Field.meaning t.base in
-    c.if-sound.false
-    ∙ sym (and_left M.sound (not (has_root M (low_bits M.width t.c))) (sym c.if-sound.ensures))
-    ∙ sym (verdict M t.c (subst (λ w. w ≤ 4) c.width-m.ensures c.if-m-gt-WIDEST.false))
+    both_match c.pairs.result c.pairs.ensures c.is_some_and.ensures
+    (λ wide e. e ∙ sym (ap (λ M. M.sound) (tower_wide (g.F.Field.meaning t.base) t.c wide)))
+    (λ p is e.
+    let M = g.F.Field.meaning p.base.now in
+    let own : c.is_some_and.result ≡ (M.sound && not (has_root M p.c)) = search rules in
+    own ∙ ap (λ e. M.sound && not (has_root M e)) is.1 ∙ sym (ap (λ M. M.sound) (tower_narrow g.F.Field.meaning p.base.now t.base p.width t.c is.0 p.measured p.narrow)))
