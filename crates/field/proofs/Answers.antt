@@ -1,6 +1,6 @@
 -- What is asked of a value that may be missing, where a number decides whether it is.
 -- Assumes nothing.
-use Rattle.std.proofs.Common.{◌≡◌, Bool, true, false, cond, Some, None, Option, ap, ◌∙◌}
+use Rattle.std.proofs.Common.{◌≡◌, Bool, true, false, cond, Some, None, Option, sym, refl, ap, ◌∙◌}
 use Rattle.std.specs.Option.{MatchOption, option_map}
 
 -- an answer of the value that is kept, or else the other
@@ -11,8 +11,7 @@ answered None f false n h d r made is = is
 answered (Some x) f true n h d r made is = is ∙ ap h (cc)
 answered (Some x) f false n h d r made is = cc
 
--- what follows from two facts of a value that may be missing
-pub both_match : {X : Type 0} (o : Option X) {P P' G : Type 0} {Q Q' : X → Type 0} → MatchOption o P Q → MatchOption o P' Q'
-    → (P → P' → G) → ((x : X) → Q x → Q' x → G) → G
-both_match None p p' none some = none p p'
-both_match (Some x) q q' none some = some x q q'
+-- the other is what the answer is where the value is missing
+pub settled : {R : Type 0} (b : Bool) (x d : R) → (b ≡ false → x ≡ d) → cond b x d ≡ x
+settled true x d e = refl
+settled false x d e = sym (e refl)

@@ -1,12 +1,13 @@
 -- Pairs of codes in one byte, and what a tower is on a narrow and on a wide field.
 -- Assumes nothing.
-use Rattle.std.proofs.Common.{◌≡◌, ℕ, ◌+◌, ◌*◌, ◌/◌, ◌%◌, ◌^◌, ◌<◌, ◌≤◌, true, sym, ap, ◌∙◌, ap₂, subst, mod-lt, mod-eq_of_lt, arith, pow_pos, pow_mono, shl_lt}
+use Rattle.std.proofs.Common.{◌≡◌, ℕ, ◌+◌, ◌*◌, ◌/◌, ◌%◌, ◌^◌, ◌<◌, ◌≤◌, not, ◌&&◌, Some, None, Option, sym, ap, ◌∙◌, ap₂, subst, mod-lt, mod-eq_of_lt, arith, pow_pos, pow_mono, shl_lt}
 use Rattle.std.proofs.Math.Pow.{mod-mod-pow}
 use Rattle.std.proofs.lemmas.Nat.{field_of}
 use Rattle.std.proofs.lemmas.Bool.{le-leb, lt-leb}
 use lib.Bits.{bit_or, bit_xor, or_shifted_r, xor_lt}
-use Rattle.algebra.specs.Meaning.{Meaning, Shape, IsCode, as_code, dead}
-use Rattle.algebra.specs.Tower.{pair, tower_product, tower_by, tower}
+use Rattle.std.specs.Option.{MatchOption}
+use Rattle.algebra.specs.Meaning.{Meaning, Shape, IsCode, as_code, low_bits, dead}
+use Rattle.algebra.specs.Tower.{pair, tower_product, has_root, tower_by, tower}
 
 -- two codes of m bits side by side
 joined : (m low high : ℕ) → m ≤ 4 → low < 2 ^ m → high < 2 ^ m → bit_or low (high * 2 ^ m % 2 ^ 8) ≡ pair m low high
@@ -17,15 +18,20 @@ joined m low high h hl hh =
     let small : high * 2 ^ m < 2 ^ (m + m) = shl_lt m m hh in
     ap (bit_or low) (mod-eq_of_lt (omega arith)) ∙ or_shifted_r high m low hl ∙ omega arith
 
--- on the field below, as the pairs know it
-pub tower_narrow : {B : Type 0} (meaning : B → Meaning) (p t : B) (w c : ℕ) → p ≡ t → w ≡ (meaning p).width → w ≤ 4 → tower (meaning t) c ≡ tower_by true (meaning p) c
-unfolding tower
-tower_narrow meaning p t w c same is narrow =
-    ap (λ b. tower (meaning b) c) (sym same) ∙ ap (λ b. tower_by b (meaning p) c) (le-leb (meaning p).width 4 (omega (arith, is)))
+-- the field of pairs on a field, with a code of it
+abbrev pub on_pairs : Meaning → ℕ → Meaning
+on_pairs M e = record { width = 2 * M.width; one = M.one; product = tower_product M e; sound = M.sound && not (has_root M e) }
 
-pub tower_wide : (M : Meaning) (c : ℕ) → 4 < M.width → tower M c ≡ dead
+-- what is asked of a tower is asked of the pairs that stand for it, or of the dead field
+pub tower_answer : {X B R : Type 0} (get : Meaning → R) (meaning : B → Meaning) (t : B) (c : ℕ) (o : Option X) (base : X → B) (code : X → ℕ) (r : R)
+    → ((x : X) → (meaning (base x)).width ≤ 4)
+    → MatchOption o (4 < (meaning t).width) (λ x. (base x ≡ t) × (code x ≡ low_bits (meaning (base x)).width c))
+    → MatchOption o (r ≡ get dead) (λ x. r ≡ get (on_pairs (meaning (base x)) (code x))) → r ≡ get (tower (meaning t) c)
 unfolding tower tower_by
-tower_wide M c h = ap (λ b. tower_by b M c) (lt-leb M.width 4 h)
+tower_answer get meaning t c None base code r narrow stand is = is ∙ sym (ap (λ b. get (tower_by b (meaning t) c)) (lt-leb (meaning t).width 4 stand))
+tower_answer get meaning t c (Some x) base code r narrow stand is =
+    is ∙ ap (λ e. get (on_pairs (meaning (base x)) e)) stand.1
+    ∙ sym (ap (λ b. get (tower (meaning b) c)) (sym stand.0) ∙ ap (λ b. get (tower_by b (meaning (base x)) c)) (le-leb (meaning (base x)).width 4 (narrow x)))
 
 -- the product of two pairs as the code works it out: by halves, each product of codes of the field below
 pub pairs_product : (M : Meaning) → Shape M → (m c x y be ad bec ae bd : ℕ) → m ≡ M.width → m ≤ 4 → IsCode M c

@@ -1,6 +1,6 @@
 -- What a shift field keeps, against its meaning.
 -- Assumes nothing.
-use Rattle.std.proofs.Common.{◌≡◌, ℕ, ◌%◌, ◌^◌, ◌<◌, Bool, true, false, cond, length, sym, refl, ap, ◌∙◌, subst, ap₂}
+use Rattle.std.proofs.Common.{◌≡◌, ℕ, ◌%◌, ◌^◌, ◌<◌, true, false, length, sym, refl, ap, ◌∙◌, subst, ap₂}
 use Rattle.std.specs.Option.{MatchOption}
 use lib.Bits.{bit_and, and_mask, mask_lt}
 use Rattle.algebra.specs.Tuples.{times}
@@ -12,7 +12,7 @@ use Rattle.algebra.proofs.Bits.{length_bits, number_lt}
 use Rattle.algebra.proofs.Degree.{shift_live}
 use Rattle.field.specs.declared.polynomial.Polynomial.{Polynomial}
 use Rattle.field.specs.declared.shift_value.Shift.{Shift}
-use Rattle.field.proofs.Answers.{answered}
+use Rattle.field.proofs.Answers.{answered, settled}
 use Rattle.field.specs.declared.residues.Residues.{Residues}
 
 pub live : (p : Polynomial) → shift p.coefficients ≡ shift_by true p.coefficients
@@ -51,16 +51,10 @@ pub shift_answer : {R : Type 0} (get : Meaning → R) (s : Shift) (r : R)
     → MatchOption s.residues (r ≡ get dead) (λ x. r ≡ get (shift x.modulus.coefficients)) → r ≡ get (shift s.number)
 unfolding shift shift_by
 shift_answer get s r is =
-    answered s.residues (λ x. x.modulus.coefficients) (in_range s.number) s.number (λ n. get (shift n)) (get dead) r s.made is ∙ by (in_range s.number) refl
-  where
-    by : (b : Bool) → in_range s.number ≡ b → cond b (get (shift_by (in_range s.number) s.number)) (get dead) ≡ get (shift_by (in_range s.number) s.number)
-    by true e = refl
-    by false e = ap (λ b. get (shift_by b s.number)) (sym e)
+    let p = s.number in
+    answered s.residues (λ x. x.modulus.coefficients) (in_range p) p (λ n. get (shift n)) (get dead) r s.made is
+    ∙ settled (in_range p) (get (shift p)) (get dead) (λ e. ap (λ b. get (shift_by b p)) e)
 
 pub one_is : (p : ℕ) → 1 ≡ (shift p).one
 unfolding shift shift_by dead
-one_is p = by (in_range p)
-  where
-    by : (b : Bool) → 1 ≡ (shift_by b p).one
-    by true = refl
-    by false = refl
+one_is p = elim (in_range p) as (λ b. 1 ≡ (shift_by b p).one) [ true ↦ refl | false ↦ refl ]

@@ -28,11 +28,7 @@ entry_first p g = shift-one-is p
 
 pub one_is : (p g : ℕ) → 1 ≡ (power_table p g).one
 unfolding power_table table_by dead
-one_is p g = by (in_range p)
-  where
-    by : (b : Bool) → 1 ≡ (table_by b p g).one
-    by true = refl
-    by false = refl
+one_is p g = elim (in_range p) as (λ b. 1 ≡ (table_by b p g).one) [ true ↦ refl | false ↦ refl ]
 
 -- a power table on a polynomial is no dead field
 pub table_live : (p : Polynomial) (g : ℕ) → power_table p.coefficients g ≡ table_by true p.coefficients g

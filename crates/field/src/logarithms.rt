@@ -1,4 +1,4 @@
-ghost use Rattle.std.specs.Prelude.{◌≡◌, ℕ, ◌+◌, ◌%◌, ◌<◌, ◌≤◌, None, IfSome, length, slice_index, slice_index_or};
+ghost use Rattle.std.specs.Prelude.{◌≡◌, ℕ, ◌+◌, ◌%◌, ◌<◌, ◌≤◌, None, IfSome, slice_index, slice_index_or};
 ghost use Rattle.algebra.specs.Meaning.{as_code};
 ghost use Rattle.algebra.specs.PowerTable.{entry, power_table};
 ghost use Rattle.field.specs.Tables.{kept_log};
@@ -16,8 +16,6 @@ pub struct Logarithms {
     powers: [u8; 256],
     logs: [Option<u8>; 256],
     ghost judged: { sound ≡ (power_table base.modulus.coefficients generator).sound },
-    ghost places: { length powers ≡ 256 },
-    ghost codes: { length logs ≡ 256 },
     ghost entries: { (k : ℕ) → k < 256 → slice_index powers k ≡ entry base.modulus.coefficients generator k },
     ghost logarithms: { (a : ℕ) → a ≤ base.mask → slice_index_or logs a None ≡ kept_log base.modulus.coefficients generator a },
 }

@@ -4,7 +4,7 @@ ghost use Rattle.algebra.specs.Shift.{in_range, shift};
 
 use crate::polynomial::Polynomial;
 
-/// What products modulo a polynomial need, and whether no two others of lower degree make it.
+/// A polynomial, the mask of a code modulo it, and whether products modulo it make a field.
 #[derive(Clone, Copy)]
 pub struct Residues {
     pub modulus: Polynomial,
@@ -15,7 +15,7 @@ pub struct Residues {
 }
 
 impl Residues {
-    /// What products modulo the polynomial of a number need, if its degree is one from 1 to 8.
+    /// Those of the polynomial of a number, if its degree is one from 1 to 8.
     pub fn of(number: u32) -> Option<Residues>
         ensures { option_map (λ r. r.modulus.coefficients) result ≡ (if in_range number then Some number else None) }
     {

@@ -1,5 +1,5 @@
 //! The two tables of a power-table field: the powers, and where each code stands among them.
-ghost use Rattle.std.specs.Prelude.{◌≡◌, ℕ, ◌+◌, ◌<◌, length, None, is_some, slice_index, slice_index_or, slice_range};
+ghost use Rattle.std.specs.Prelude.{◌≡◌, ℕ, ◌+◌, ◌<◌, None, is_some, slice_index, slice_index_or, slice_range};
 ghost use Rattle.std.specs.List.{list_all};
 ghost use Rattle.algebra.specs.PowerTable.{entry};
 ghost use Rattle.field.specs.Tables.{lowest};
@@ -8,8 +8,7 @@ use crate::residues::Residues;
 
 // The powers of `generator`, of which the low bits count.
 pub fn powers_of(base: &Residues, generator: u32) -> [u8; 256]
-    ensures whole { length result ≡ 256 }
-    ensures entries { (k : ℕ) → k < 256 → slice_index result k ≡ entry base.now.modulus.coefficients generator k }
+    ensures { (k : ℕ) → k < 256 → slice_index result k ≡ entry base.now.modulus.coefficients generator k }
 {
     let g = (generator & base.mask as u32) as u8;
     let mut powers = [0u8; 256];
@@ -23,7 +22,6 @@ pub fn powers_of(base: &Residues, generator: u32) -> [u8; 256]
 
 // For each byte but 0 the lowest of the first `places` places where it stands, if it stands at one; for 0 nothing.
 pub fn lowest_places(powers: &[u8; 256], places: u8) -> [Option<u8>; 256]
-    ensures whole { length result ≡ 256 }
     ensures zero { slice_index_or result 0 None ≡ None }
     ensures lowest { (a : ℕ) → 0 < a → a < 256 → slice_index_or result a None ≡ lowest powers.now places a }
 {

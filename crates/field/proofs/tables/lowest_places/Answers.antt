@@ -25,7 +25,6 @@ returns c =
     let inv = c.loop-k.invariant in
     let done : c.loop-k.k ≡ 0 = omega (arith, c.loop-k-test.false) in
     record {
-      whole = length-set logs 0 None ∙ inv.0;
       zero = get_or-set_same logs 0 None None (omega (arith, inv.0));
       lowest = λ a pos h.
           get_or-set_other logs 0 a None None (λ e. omega arith) ∙ inv.1 a h

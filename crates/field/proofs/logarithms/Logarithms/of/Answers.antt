@@ -1,4 +1,4 @@
-use Rattle.std.proofs.Common.{◌≡◌, ℕ, ◌≤◌, None, get_or, sym, ap, ◌∙◌, ⊎_elim, arith}
+use Rattle.std.proofs.Common.{rules, ◌≡◌, ℕ, ◌≤◌, None, get_or, sym, ap, ◌∙◌, ⊎_elim, arith}
 use Rattle.std.proofs.lemmas.Bool.{cases_eq}
 use Rattle.algebra.specs.PowerTable.{table_by}
 use Rattle.field.specs.Tables.{kept_log}
@@ -16,12 +16,10 @@ invariant_of-result c =
     let list = c.lowest_places-logs.result in
     let right : (a : ℕ) → a ≤ s.mask → get_or list a None ≡ kept_log p g a
     = λ a h. ⊎_elim (λ (z : a ≡ 0). ap (λ z. get_or list z None) z ∙ logs.zero ∙ kept_zero s g ∙ ap (kept_log p g) (sym z))
-    (λ some. logs.lowest a (omega (arith, some)) (omega (arith, mask_byte s g)) ∙ kept_lowest s g c.powers_of-powers.result powers.entries a (omega (arith, some)))
+    (λ some. logs.lowest a (omega (arith, some)) (omega (arith, mask_byte s g)) ∙ kept_lowest s g c.powers_of-powers.result powers a (omega (arith, some)))
     (cases_eq a 0) in
     record {
-      judged = c.all_stand.ensures ∙ verdict s g list logs.whole right ∙ sym (ap (λ M. M.sound) (table_live s.modulus g));
-      places = powers.whole;
-      codes = logs.whole;
-      entries = powers.entries;
+      judged = c.all_stand.ensures ∙ verdict s g list (search rules) right ∙ sym (ap (λ M. M.sound) (table_live s.modulus g));
+      entries = powers;
       logarithms = right;
     }

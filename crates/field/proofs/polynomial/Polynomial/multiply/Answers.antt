@@ -1,9 +1,8 @@
-use Rattle.std.proofs.Common.{◌≡◌, ◌-◌, ◌*◌, ◌/◌, ◌^◌, ◌<◌, sym, ap, ◌∙◌, subst, ap₂, div-one, arith, pow_pos}
+use Rattle.std.proofs.Common.{◌≡◌, ◌-◌, ◌/◌, ◌^◌, ◌<◌, sym, ap, ◌∙◌, subst, ap₂, div-one, arith, pow_pos}
 use native.Mathlib.Nat.{sub_self, sub-zero}
-use Rattle.std.proofs.lemmas.Nat.{div_below}
 use Rattle.algebra.proofs.Binary.{horner, horner_lt, horner_times}
 use Rattle.field.proofs.Widths.{range}
-use Rattle.field.proofs.Turns.{doubled, turn}
+use Rattle.field.proofs.Turns.{turn}
 use Rattle.field.proofs.polynomial.Polynomial.multiply.Goals as goal
 
 pub overflow_shr-doubled : goal.overflow_shr-doubled
@@ -13,13 +12,6 @@ pub loop-i-init : goal.loop-i-init
 unfolding horner
 loop-i-init c =
     (sym (ap (λ n. horner c.args.self.now.width c.args.self.now.coefficients c.args.b n (c.args.a / 2 ^ c.args.digits)) (sub_self c.args.digits)), pow_pos c.args.self.now.width)
-
-pub select-requires : goal.select-requires
-select-requires c =
-    let w = c.args.self.now.width in
-    let r = c.loop-i.r in
-    subst (λ z. z / 2 ^ w < 2) (sym (doubled w r (range c.args.self.now).at_most c.loop-i.invariant.1))
-    (div_below (2 * r) (2 ^ w) 2 (pow_pos w) (omega (arith, c.loop-i.invariant.1)))
 
 pub loop-i-preserved : goal.loop-i-preserved
 loop-i-preserved c =
