@@ -19,7 +19,7 @@ joined m low high h hl hh =
     ap (bit_or low) (mod-eq_of_lt (omega arith)) ∙ or_shifted_r high m low hl ∙ omega arith
 
 -- the field of pairs on a field, with a code of it
-abbrev pub on_pairs : Meaning → ℕ → Meaning
+abbrev on_pairs : Meaning → ℕ → Meaning
 on_pairs M e = record { width = 2 * M.width; one = M.one; product = tower_product M e; sound = M.sound && not (has_root M e) }
 
 -- what is asked of a tower is asked of the pairs that stand for it, or of the dead field

@@ -18,7 +18,7 @@ lowest_end entries n a =
     ∙ cond-false (ltb n n) (Some n) None (le-ltb n n (omega arith))
 
 -- one place lower: there or as before
-pub lowest_step : (entries : List ℕ) (n i a : ℕ) → i < n → lowest_from entries n i a ≡ cond (eqb (get_or entries i 0) a) (Some i) (lowest_from entries n (i + 1) a)
+lowest_step : (entries : List ℕ) (n i a : ℕ) → i < n → lowest_from entries n i a ≡ cond (eqb (get_or entries i 0) a) (Some i) (lowest_from entries n (i + 1) a)
 unfolding lowest_from first_from
 lowest_step entries n i a h =
     let test : ℕ → Bool = λ k. eqb (get_or entries k 0) a in

@@ -38,5 +38,5 @@ pub fn lowest_places(powers: &[u8; 256], places: u8) -> [Option<u8>; 256]
 pub fn all_stand(logs: &[Option<u8>; 256], places: u8) -> bool
     ensures { result ≡ list_all is_some (slice_range logs.now 1 (places + 1)) }
 {
-    logs[1..=places as usize].iter().all(|log| log.is_some())
+    logs[1..=places as usize].iter().all(Option::is_some)
 }
