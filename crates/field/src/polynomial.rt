@@ -66,7 +66,7 @@ impl Polynomial {
         self.width < p.width && self.multiply(p.coefficients, 9, 1) == 0
     }
 
-    // Whether the polynomial of a number does that to this one.
+    // Whether the number `d` is that of a polynomial of lower degree that divides this one.
     fn is_divided_by(&self, d: u32) -> bool
         ensures { result ≡ (in_range d && divides d self.now.coefficients) }
     {
