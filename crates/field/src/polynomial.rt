@@ -3,7 +3,7 @@ ghost use Rattle.std.specs.Prelude.{◌≡◌, ◌*◌, ◌^◌, ◌<◌, ◌≤
 ghost use Rattle.algebra.specs.Tuples.{times};
 ghost use Rattle.algebra.specs.Bits.{two, bits, number};
 ghost use Rattle.algebra.specs.Shift.{in_range, degree, splits};
-ghost use Rattle.algebra.proofs.Trial.{divides};
+ghost use Rattle.field.specs.Division.{divides};
 
 // The numbers whose highest bit has a position from 1 to 8.
 const SMALLEST: u32 = 2;

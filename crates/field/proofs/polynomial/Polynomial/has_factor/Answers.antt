@@ -3,7 +3,7 @@ use borrow.Author.Tests.{tests}
 use Rattle.std.proofs.lemmas.Iterator.{YieldsList-from_range}
 use Rattle.std.proofs.lemmas.Iterator.Search.{any_from_yields_List}
 use Rattle.algebra.specs.Shift.{in_range}
-use Rattle.algebra.proofs.Trial.{divides}
+use Rattle.field.specs.Division.{divides}
 use Rattle.field.proofs.Factors.{trial_is}
 use Rattle.field.proofs.polynomial.Polynomial.has_factor.Goals as goal
 
