@@ -23,7 +23,7 @@ fn inverse_below<F: Field>(field: &F, a: u8, last: u8) -> Option<u8>
 fn inverse_code<F: Field>(field: &F, a: u8) -> u8
     ensures { result ≡ inverse_code (F.meaning field.now) a }
 {
-    let last = ((1u16 << field.width()) - 1) as u8;
+    let last = field.largest_code();
     inverse_below(field, a, last).unwrap_or(last)
 }
 

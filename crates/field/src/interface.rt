@@ -1,4 +1,4 @@
-ghost use Rattle.std.specs.Prelude.{◌≡◌, true};
+ghost use Rattle.std.specs.Prelude.{◌≡◌, ◌-◌, ◌^◌, true};
 ghost use Rattle.algebra.specs.Meaning.{Meaning, Shape, Laws, as_code};
 
 /// A field is whatever answers four questions; answering changes nothing.
@@ -21,6 +21,13 @@ pub trait Field {
     /// Whether the laws of a field hold.
     fn sound(&self) -> bool
         ensures { result ≡ (meaning self.now).sound };
+
+    /// The largest code: its bits are those that count of a byte.
+    final fn largest_code(&self) -> u8
+        ensures { result ≡ 2 ^ (meaning self.now).width - 1 }
+    {
+        ((1u16 << self.width()) - 1) as u8
+    }
 
     ghost shape: { (x : Self) → Shape (meaning x) };
 

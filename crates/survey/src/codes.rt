@@ -1,30 +1,23 @@
 //! What can be found out of a field by going through all its codes.
-ghost use Rattle.std.specs.Prelude.{◌≡◌, ◌-◌, ◌^◌};
+ghost use Rattle.std.specs.Prelude.{◌≡◌};
 ghost use Rattle.algebra.specs.Meaning.{as_code};
 ghost use Rattle.survey.specs.Codes.{has_inverse, invertible, period, longest_period};
 
 use field::Field;
-
-// The largest code.
-fn last_code<F: Field>(field: &F) -> u8
-    ensures { result ≡ 2 ^ (F.meaning field.now).width - 1 }
-{
-    ((1u16 << field.width()) - 1) as u8
-}
 
 // Whether some code times `a` is one.
 fn has_inverse<F: Field>(field: &F, a: u8) -> bool
     ensures { result ≡ has_inverse (F.meaning field.now) (as_code (F.meaning field.now) a) }
 {
     let one = field.one();
-    (0..=last_code(field)).any(|b| field.product(a, b) == one)
+    (0..=field.largest_code()).any(|b| field.product(a, b) == one)
 }
 
 // How many codes have an inverse.
 pub fn invertible<F: Field>(field: &F) -> u16
     ensures { result ≡ invertible (F.meaning field.now) }
 {
-    (0..=last_code(field))
+    (0..=field.largest_code())
         .filter(|&a| has_inverse(field, a))
         .count() as u16
 }
@@ -35,7 +28,7 @@ fn period<F: Field>(field: &F, a: u8) -> Option<u16>
 {
     let one = field.one();
     let mut x = one;
-    for e in 1..=u16::from(last_code(field)) + 1 {
+    for e in 1..=u16::from(field.largest_code()) + 1 {
         x = field.product(a, x);
         if x == one {
             return Some(e);
@@ -48,7 +41,7 @@ fn period<F: Field>(field: &F, a: u8) -> Option<u16>
 pub fn longest_period<F: Field>(field: &F) -> u16
     ensures { result ≡ longest_period (F.meaning field.now) }
 {
-    (0..=last_code(field))
+    (0..=field.largest_code())
         .filter_map(|a| period(field, a))
         .max()
         .unwrap_or(0)

@@ -6,12 +6,6 @@ use Rattle.algebra.specs.Search.{first_from}
 use Rattle.algebra.proofs.Search.{first_found, first_none}
 use Rattle.blocks.proofs.elimination.inverse_code.Goals as goal
 
--- the last code, as the code works it out
-last_is : (w : ℕ) → w ≤ 8 → 1 * 2 ^ w % 65536 - 1 ≡ 2 ^ w - 1
-last_is w h =
-    let small : 2 ^ w ≤ 2 ^ 8 = pow_mono h in
-    ap (λ z. z % 65536 - 1) (one-mul (2 ^ w)) ∙ ap (λ z. z - 1) (mod-eq_of_lt (omega arith))
-
 -- what was found, or the last
 found : (f : ℕ → ℕ) (one last : ℕ) (r : Option ℕ)
     → MatchOption r ((b : ℕ) → b < last → f b ≢ one) (λ b. (b < last) × (f b ≡ one) × ((k : ℕ) → k < b → f k ≢ one)) → unwrap_or r last ≡ first_from 0 last (λ b. eqb (f b) one)
@@ -22,6 +16,5 @@ found f one last (Some b) is =
 pub returns : goal.returns
 returns g c =
     let M = g.F.Field.meaning c.args.field.now in
-    let n : 1 * 2 ^ c.width.result % 65536 - 1 ≡ 2 ^ M.width - 1
-    = last_is c.width.result (subst (λ w. w ≤ 8) (sym c.width.ensures) (g.met.F.Field.shape c.args.field.now).at_most) ∙ ap (λ w. 2 ^ w - 1) c.width.ensures in
-    c.unwrap_or.ensures ∙ found ((on_bytes M).mul c.args.a) M.one _ c.inverse_below.result c.inverse_below.ensures ∙ ap (λ last. first_from 0 last (λ b. eqb ((on_bytes M).mul c.args.a b) M.one)) n
+    c.unwrap_or.ensures ∙ found ((on_bytes M).mul c.args.a) M.one c.largest_code-last.result c.inverse_below.result c.inverse_below.ensures
+    ∙ ap (λ last. first_from 0 last (λ b. eqb ((on_bytes M).mul c.args.a b) M.one)) c.largest_code-last.ensures

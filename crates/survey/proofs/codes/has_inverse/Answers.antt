@@ -11,5 +11,5 @@ unfolding has_inverse
 returns g c =
     let M = g.F.Field.meaning c.args.field.now in
     any_from_yields_List (λ b. eqb (M.product (as_code M c.args.a) b) M.one) _ _ _ c.any.ensures.ran
-    (all_codes_yield M c.new.result c.new.ensures.start (c.new.ensures.end ∙ c.last_code.ensures) c.new.ensures.exhausted)
+    (all_codes_yield M c.new.result c.new.ensures.start (c.new.ensures.end ∙ c.largest_code.ensures) c.new.ensures.exhausted)
     (λ x b q k. search (rules, tests))

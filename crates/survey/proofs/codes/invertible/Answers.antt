@@ -12,6 +12,6 @@ returns g c =
     let M = g.F.Field.meaning c.args.field.now in
     count_from_yields_List c.filter.result _ c.count.ensures.ran
     (YieldsList-from_filter _ (has_inverse M)
-    (YieldsList-at c.filter.ensures.source (all_codes_yield M c.new.result c.new.ensures.start (c.new.ensures.end ∙ c.last_code.ensures) c.new.ensures.exhausted))
+    (YieldsList-at c.filter.ensures.source (all_codes_yield M c.new.result c.new.ensures.start (c.new.ensures.end ∙ c.largest_code.ensures) c.new.ensures.exhausted))
     c.filter.ensures.closure (λ x b q k. search (rules, tests)))
     ∙ length-filter (has_inverse M) (all_codes M)

@@ -11,6 +11,6 @@ returns g c =
     let M = g.F.Field.meaning c.args.field.now in
     let largest = max_from_yields_List c.filter_map.result _ c.max.ensures.ran
     (YieldsList-from_filter_map _ (period M)
-    (YieldsList-at c.filter_map.ensures.source (all_codes_yield M c.new.result c.new.ensures.start (c.new.ensures.end ∙ c.last_code.ensures) c.new.ensures.exhausted))
+    (YieldsList-at c.filter_map.ensures.source (all_codes_yield M c.new.result c.new.ensures.start (c.new.ensures.end ∙ c.largest_code.ensures) c.new.ensures.exhausted))
     c.filter_map.ensures.closure (λ x r q k. search rules)) in
     c.unwrap_or.ensures ∙ ap (λ r. unwrap_or r 0) (sym (option_map_id _) ∙ largest)

@@ -26,7 +26,7 @@ returns-then-x-one g c =
     let e = c.loop-e.e in
     let inv = c.loop-e.invariant in
     let is = power_more M a c.loop-e.x e c.product-x.result inv.code c.loop-e.auto.e inv.product c.product-x.ensures in
-    let within : e < 1 + n = omega (arith, c.loop-e-test.true, c.from-e-end.ensures, c.last_code.ensures, pow_pos M.width) in
+    let within : e < 1 + n = omega (arith, c.loop-e-test.true, c.from-e-end.ensures, c.largest_code.ensures, pow_pos M.width) in
     sym (found (λ k. eqb (power (operations M) a k) M.one) n 1 e c.loop-e.auto.e within inv.none
     (eq-eqb (power (operations M) a e) M.one (sym is ∙ c.if-x-one.true ∙ c.one-one.ensures)))
 
@@ -54,6 +54,6 @@ returns-else-x-one g c =
     let e = c.loop-e.e in
     let inv = c.loop-e.invariant in
     let is = power_more M a c.loop-e.x e c.product-x.result inv.code c.loop-e.auto.e inv.product c.product-x.ensures in
-    let all : 1 + n ≡ e + 1 = omega (arith, c.from-e-end.ensures, c.last_code.ensures, pow_pos M.width) in
+    let all : 1 + n ≡ e + 1 = omega (arith, c.from-e-end.ensures, c.largest_code.ensures, pow_pos M.width) in
     let none = none_more M a e c.one-one.result c.product-x.result c.one-one.ensures inv.none is c.if-x-one.false in
     sym (not_found (λ k. eqb (power (operations M) a k) M.one) n 1 (λ k lo hi. none k lo (subst (λ m. k < m) all hi)))
