@@ -15,7 +15,8 @@ pub trait BlockArithmetic {
 
     /// How many codes a block has.
     fn size(&self) -> usize
-        ensures { result ≡ (arithmetic self.now).size };
+        ensures value { result ≡ (arithmetic self.now).size }
+        ensures formed { Formed (arithmetic self.now) };
 
     /// The product of two blocks.
     fn multiply(&self, a: Block, b: Block) -> Block

@@ -10,4 +10,4 @@ returns-clause-value g c =
     let A = g.B.BlockArithmetic.arithmetic c.args.blocks.now in
     c.raise_repeatedly.ensures.value
     ∙ ap (λ n. iterate A.q_power n c.args.block)
-    (both_residues c.size-v.result c.args.k c.args.count ∙ ap (λ v. c.args.k * c.args.count % v) c.size-v.ensures)
+    (both_residues c.size-v.result c.args.k c.args.count ∙ ap (λ v. c.args.k * c.args.count % v) c.size-v.ensures.value)
