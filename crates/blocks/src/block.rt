@@ -49,6 +49,7 @@ impl Block {
         requires { length bytes.now ≤ 32 }
         ensures { result ≡ bytes.now }
     {
+        // No heap: a room, of which the start counts.
         let mut room = [0u8; WIDEST];
         room[..bytes.len()].copy_from_slice(bytes);
         Block {
@@ -90,6 +91,7 @@ impl Block {
         ensures value { result ≡ plus (on_bytes (F.meaning field.now)) (scale (on_bytes (F.meaning field.now)) factor other) self }
         ensures size { length result ≡ length self }
     {
+        // No heap: a room, of which the start counts.
         let mut room = [0u8; WIDEST];
         let sum = &mut room[..self.size];
         sum.copy_from_slice(self.as_slice());

@@ -26,6 +26,7 @@ impl<F: Field> Quotient<'_, F> {
         ensures value { result ≡ times (on_bytes (F.meaning self.now.field.now)) self.now.low a b }
         ensures size { length result ≡ length self.now.low }
     {
+        // No heap: a room, of which the start counts.
         let mut room = [0u8; WIDEST];
         let product = &mut room[..b.size()];
         multiply(
@@ -52,6 +53,7 @@ impl<F: Field> Quotient<'_, F> {
         ensures size { length result ≡ length self.now.low }
     {
         let one = self.one();
+        // No heap: a room, of which the start counts.
         let mut room = [0u8; WIDEST];
         let x = &mut room[..one.size()];
         x.copy_from_slice(one.as_slice());
@@ -75,6 +77,7 @@ impl<F: Field> Quotient<'_, F> {
     {
         let factor = self.x_to_q();
         let mut power = self.one();
+        // No heap: rooms, of which the first count.
         let mut rooms = [power; WIDEST];
         let rows = &mut rooms[..self.low.size()];
         for row in rows.iter_mut() {

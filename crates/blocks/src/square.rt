@@ -37,6 +37,7 @@ impl Square {
         requires even { Even rows.now }
         ensures { result ≡ rows.now }
     {
+        // No heap: rooms, of which the first count.
         let mut rooms = [Block::zeros(0); WIDEST];
         rooms[..rows.len()].copy_from_slice(rows);
         Square {
@@ -52,6 +53,7 @@ impl Square {
         ensures value { result ≡ parts size size bytes.now }
         ensures size { length result ≡ size }
     {
+        // No heap: rooms, of which the first count.
         let mut rooms = [Block::zeros(size); WIDEST];
         let rows = &mut rooms[..size];
         // Where there are no rows, there are no bytes for a chunk of one.
@@ -84,6 +86,7 @@ impl Square {
         requires { size ≤ 32 }
         ensures { result ≡ basis_from (on_bytes (F.meaning field.now)) size 0 size }
     {
+        // No heap: rooms, of which the first count.
         let mut rooms = [Block::zeros(size); WIDEST];
         let rows = &mut rooms[..size];
         // By index: it is also where the one stands, and an `enumerate` over `iter_mut` tells a proof nothing.
@@ -100,6 +103,7 @@ impl Square {
         ensures value { (f : List ℕ → List ℕ) → ((row r : List ℕ) → C.post change row r → r ≡ f row) → result ≡ map f self.now }
         ensures size { length result ≡ length self.now }
     {
+        // No heap: rooms, of which the first count.
         let mut rooms = self.rooms;
         let rows = &mut rooms[..self.size];
         for row in rows.iter_mut() {
