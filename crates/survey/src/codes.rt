@@ -28,6 +28,7 @@ fn period<F: Field>(field: &F, a: u8) -> Option<u16>
 {
     let one = field.one();
     let mut x = one;
+    // The count is what is answered, and each product takes the one before.
     for e in 1..=u16::from(field.largest_code()) + 1 {
         x = field.product(a, x);
         if x == one {
