@@ -1,26 +1,12 @@
 //! Tries the library on the numbers of the version in another language, a line each, and says how many came out otherwise.
+//! The lines are of fields alone.
 #![tactic(auto)]
 
-mod cases;
-
-use cases::{Verdict, try_case};
+use lines::{field_line_holds, tally};
 use std::io;
 
 fn main(rt: HostRuntime) -> io::Result<()> {
-    let mut right = 0u64;
-    let mut wrong = 0u64;
-    for line in rt.lines(rt.alloc()) {
-        let line = line?;
-        match try_case(line.as_str()) {
-            Verdict::Right => right = right.saturating_add(1),
-            Verdict::Wrong => {
-                wrong = wrong.saturating_add(1);
-                let text = line.as_str();
-                println!(rt; "wrong: {text}")?;
-            }
-        }
-    }
-    println!(rt; "{right} right, {wrong} wrong")
+    tally(&rt, field_line_holds)
 }
 
 #[cfg(test)]

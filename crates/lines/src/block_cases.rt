@@ -1,0 +1,55 @@
+//! Cases of blocks, over any field.
+ghost use Rattle.std.specs.Prelude.{◌≡◌, [], length, MatchOption};
+ghost use Rattle.blocks.specs.Moduli.{coefficients};
+
+use crate::case::{BlockCase, Step};
+use blocks::{Block, BlockArithmetic, Modular, Modulus, follows_rule, raise_back, raise_forward};
+use field::Field;
+
+/// Whether the modulus with these coefficients follows the rule; none where there are none.
+pub fn rule_kept<F: Field>(field: &F, low: Block) -> Option<bool> {
+    Some(follows_rule(field, &made_modulus(field, low)?))
+}
+
+/// Whether the step has the result; none where the sizes or the numbers do not fit.
+pub fn block_case_holds<F: Field>(field: &F, case: &BlockCase) -> Option<bool> {
+    let modulus = made_modulus(field, case.modulus)?;
+    let blocks = Modular {
+        field,
+        modulus: &modulus,
+    };
+    Some(taken(&blocks, &case.step, case.block)? == case.result)
+}
+
+// The modulus with these coefficients, if there are any.
+fn made_modulus<F: Field>(field: &F, low: Block) -> Option<Modulus>
+    ensures { MatchOption result (low ≡ []) (λ m. coefficients m ≡ low) }
+{
+    if low.len() == 0 {
+        return None;
+    }
+    Some(Modulus::new(field, low.as_slice()))
+}
+
+// The block after the step.
+fn taken<B: BlockArithmetic>(blocks: &B, step: &Step, block: Block) -> Option<Block> {
+    if block.len() != blocks.size() {
+        return None;
+    }
+    match *step {
+        Step::Multiply(factor) => {
+            (factor.len() == blocks.size()).then(|| blocks.multiply(factor, block))
+        }
+        Step::Square => Some(blocks.square(block)),
+        Step::Frobenius => Some(blocks.raise_to_q(block)),
+        Step::Forward(t) => Some(raise_forward(blocks, usize::from(t), block)),
+        Step::Back { l, t } => raised_back(blocks, usize::from(l), usize::from(t), block),
+    }
+}
+
+fn raised_back<B: BlockArithmetic>(blocks: &B, l: usize, t: usize, block: Block) -> Option<Block>
+    requires { length block ≡ (B.arithmetic blocks.now).size }
+{
+    let fits = l > 0 && t > 0 && t < blocks.size();
+    fits.then(|| raise_back(blocks, l, t, block))
+}

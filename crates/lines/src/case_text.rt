@@ -1,0 +1,106 @@
+//! Cases as lines have them: the kind, and what it takes; the name of a field follows.
+use crate::case::{BlockCase, Case, FieldCase, MapCase, Step};
+use crate::map_cases::made_map;
+use crate::words::Words;
+use blocks::{AffineMap, Block};
+
+// The most bytes that a map has: constants and rows for blocks of 32 codes.
+const MOST_CODES: usize = 1056;
+
+/// The case that a line begins with, and the name of a field behind it.
+pub fn read_line(line: &str) -> Option<(Case, &str)> {
+    let mut words = Words { rest: line };
+    let kind = words.word()?;
+    let case = read_case(kind, &mut words)?;
+    Some((case, words.rest))
+}
+
+/// The same of a line of a field alone.
+pub fn read_field_line(line: &str) -> Option<(FieldCase, &str)> {
+    let mut words = Words { rest: line };
+    let kind = words.word()?;
+    let case = read_field_case(kind, &mut words)?;
+    Some((case, words.rest))
+}
+
+fn read_case(kind: &str, words: &mut Words) -> Option<Case> {
+    match kind {
+        "rule" => read_rule(words, true),
+        "no-rule" => read_rule(words, false),
+        "apply" => Some(Case::Apply(read_map_case(words)?)),
+        "solve" => Some(Case::Solve(read_map_case(words)?)),
+        "singular" => Some(Case::Singular(read_singular(words)?)),
+        "multiply" | "square" | "frobenius" | "forward" | "back" => {
+            Some(Case::Blocks(read_block_case(kind, words)?))
+        }
+        _ => Some(Case::Field(read_field_case(kind, words)?)),
+    }
+}
+
+fn read_field_case(kind: &str, words: &mut Words) -> Option<FieldCase> {
+    match kind {
+        "product" => Some(FieldCase::Product {
+            a: words.byte()?,
+            b: words.byte()?,
+            product: words.byte()?,
+        }),
+        "width" => Some(FieldCase::Width(words.byte()?)),
+        "one" => Some(FieldCase::One(words.byte()?)),
+        "sound" => Some(FieldCase::Sound(true)),
+        "unsound" => Some(FieldCase::Sound(false)),
+        _ => None,
+    }
+}
+
+fn read_rule(words: &mut Words, kept: bool) -> Option<Case> {
+    let modulus = words.block()?;
+    Some(Case::Rule { modulus, kept })
+}
+
+fn read_map_case(words: &mut Words) -> Option<MapCase> {
+    let codes = words.bytes::<MOST_CODES>()?;
+    let block = words.block()?;
+    let image = words.block()?;
+    let map = made_map(codes.as_slice(), block.len())?;
+    Some(MapCase { map, block, image })
+}
+
+fn read_singular(words: &mut Words) -> Option<AffineMap> {
+    let codes = words.bytes::<MOST_CODES>()?;
+    let size = words.byte()?;
+    made_map(codes.as_slice(), usize::from(size))
+}
+
+fn read_block_case(kind: &str, words: &mut Words) -> Option<BlockCase> {
+    let (step, modulus) = read_step(kind, words)?;
+    Some(BlockCase {
+        step,
+        modulus,
+        block: words.block()?,
+        result: words.block()?,
+    })
+}
+
+// The step of that kind, and its modulus.
+fn read_step(kind: &str, words: &mut Words) -> Option<(Step, Block)> {
+    match kind {
+        "multiply" => read_multiply(words),
+        "square" => Some((Step::Square, words.block()?)),
+        "frobenius" => Some((Step::Frobenius, words.block()?)),
+        "forward" => Some((Step::Forward(words.byte()?), words.block()?)),
+        "back" => read_back(words),
+        _ => None,
+    }
+}
+
+fn read_multiply(words: &mut Words) -> Option<(Step, Block)> {
+    let modulus = words.block()?;
+    let factor = words.block()?;
+    Some((Step::Multiply(factor), modulus))
+}
+
+fn read_back(words: &mut Words) -> Option<(Step, Block)> {
+    let l = words.byte()?;
+    let t = words.byte()?;
+    Some((Step::Back { l, t }, words.block()?))
+}

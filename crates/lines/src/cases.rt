@@ -1,0 +1,60 @@
+//! Tries a line: what it says should be what the library answers.
+use crate::block_cases::{block_case_holds, rule_kept};
+use crate::case::Case;
+use crate::case_text::{read_field_line, read_line};
+use crate::field_cases::field_case_holds;
+use crate::map_cases::{map_applies, map_solves};
+use crate::scaled_value::Scaled;
+use crate::words::Words;
+use field::Field;
+use named::{Storey, field_named};
+
+/// Whether a line says of the field that it names what is so: `product A B R NAME`, `width W NAME`, `one O NAME`, `sound NAME` or
+/// `unsound NAME`. No other line does.
+pub fn field_line_holds(line: &str) -> bool {
+    says_of_field(line) == Some(true)
+}
+
+/// Whether a line says what is so of a field, of blocks or of maps over it; the name of a field may say how it is scaled.
+pub fn line_holds(line: &str) -> bool {
+    says(line) == Some(true)
+}
+
+fn says_of_field(line: &str) -> Option<bool> {
+    let (case, name) = read_field_line(line)?;
+    Some(field_case_holds(&named(name)?, &case))
+}
+
+fn says(line: &str) -> Option<bool> {
+    let Some((case, name)) = read_line(line) else {
+        return None;
+    };
+    match name.strip_prefix("scaled ") {
+        Some(rest) => case_holds(&scaled_named(rest)?, &case),
+        None => case_holds(&named(name)?, &case),
+    }
+}
+
+// The field that a text names.
+fn named(text: &str) -> Option<Storey> {
+    field_named(text).ok()
+}
+
+// A factor, a one, and the name of the field below.
+fn scaled_named(text: &str) -> Option<Scaled<Storey>> {
+    let mut words = Words { rest: text };
+    let factor = words.byte()?;
+    let one = words.byte()?;
+    Some(Scaled::new(named(words.rest)?, factor, one))
+}
+
+fn case_holds<F: Field>(field: &F, case: &Case) -> Option<bool> {
+    match *case {
+        Case::Field(case) => Some(field_case_holds(field, &case)),
+        Case::Rule { modulus, kept } => Some(rule_kept(field, modulus)? == kept),
+        Case::Blocks(case) => block_case_holds(field, &case),
+        Case::Apply(case) => map_applies(field, &case),
+        Case::Solve(case) => map_solves(field, &case),
+        Case::Singular(map) => Some(map.inverse(field).is_none()),
+    }
+}

@@ -1,6 +1,0 @@
-use Rattle.trials.specs.Scaled.{scaled}
-use Rattle.trials.proofs.scaled_field.ScaledField.width.Goals as goal
-
-pub returns : goal.returns
-unfolding scaled
-returns g c = c.width.ensures
