@@ -2,9 +2,11 @@
 //! depends on all of it.
 #![tactic(auto)]
 
-ghost use Rattle.std.specs.Prelude.{◌≡◌, length};
+ghost use Rattle.std.specs.Prelude.{◌≡◌, ℕ, ◌<◌, List, length};
+ghost use Rattle.blocks.specs.Maps.{size_of};
+ghost use Rattle.blocks.specs.Moduli.{coefficients};
 
-use blocks::{AffineMap, BlockArithmetic, Modular, Modulus, raise_back, raise_forward};
+use blocks::{AffineMap, Block, BlockArithmetic, Modular, Modulus, raise_back, raise_forward};
 use field::{Field, PowerTable, Shift, Tower};
 
 // X^31 + X^3 + 1, which follows the rule over every sound field whose one is 1.
@@ -19,11 +21,7 @@ const START: [u8; 32] = [
 ];
 
 fn products<F: Field>(field: &F, rounds: u32) -> u8 {
-    let mut x = 1u8;
-    for i in 0..rounds {
-        x = field.product(x, 83) ^ (i & 255) as u8;
-    }
-    x
+    (0..rounds).fold(1, |x, i| field.product(x, 83) ^ (i & 255) as u8)
 }
 
 #[unsafe(no_mangle)]
@@ -41,65 +39,58 @@ pub extern "C" fn rattle_tower(number: u32, rounds: u32) -> u8 {
     products(&Tower::new(Shift::new(number), 8), rounds)
 }
 
-// What is done with a block again and again.
-#[derive(Clone, Copy)]
-enum Work {
-    Multiply,
-    RaiseToQ,
-    Forward,
-    Back,
-}
-
-fn work_once<B: BlockArithmetic>(blocks: &B, work: Work, block: &mut [u8]) {
-    let start = START;
-    let size = blocks.size();
-    if block.len() != size || size != 31 {
-        return;
-    }
-    match work {
-        Work::Multiply => blocks.multiply(&start[0..31], block),
-        Work::RaiseToQ => blocks.raise_to_q(block),
-        Work::Forward => raise_forward(blocks, 15, block),
-        Work::Back => raise_back(blocks, 15, 15, block),
-    }
-}
-
-fn worked<F: Field>(field: &F, work: Work, rounds: u32, block: &mut [u8]) {
-    let modulus = Modulus::new(field, &LOW);
+// A block after so many steps that keep its size.
+fn repeated<S: Fn(Block) -> Block>(step: S, rounds: u32, block: Block) -> Block
+    requires callable { (x : List ℕ) → length x ≡ length block → S.pre step x }
+    requires stays { (x r : List ℕ) → S.post step x r → length r ≡ length block }
+    ensures { length result ≡ length block }
+{
+    let mut stepped = block;
     for _ in 0..rounds {
-        let blocks = Modular {
-            field,
-            modulus: &modulus,
-        };
-        work_once(&blocks, work, block);
+        stepped = step(stepped);
     }
+    stepped
 }
 
-fn work_on_blocks(work: Work, number: u32, rounds: u32) -> u8 {
-    let mut room = START;
-    let block = &mut room[0..31];
-    worked(&Shift::new(number), work, rounds, block);
-    block[0]
+// The first byte of a block of 31 codes after so many steps.
+fn worked<S: Fn(&Modular<'_, '_, Shift>, Block) -> Block>(number: u32, rounds: u32, step: S) -> u8
+    requires callable { (blocks : _) (x : List ℕ) → length (coefficients blocks.now.modulus.now) ≡ 31 → length x ≡ 31 → S.pre step blocks x }
+    requires stays { (blocks : _) (x r : List ℕ) → length (coefficients blocks.now.modulus.now) ≡ 31 → S.post step blocks x r → length r ≡ 31 }
+{
+    let field = Shift::new(number);
+    let modulus = Modulus::new(&field, &LOW);
+    let blocks = &Modular {
+        field: &field,
+        modulus: &modulus,
+    };
+    let start = START;
+    let block = Block::from_bytes(&start[..31]);
+    let taken = |x|
+        requires { S.pre step blocks x }
+    { step(blocks, x) };
+    repeated(taken, rounds, block).as_slice()[0]
 }
 
 #[unsafe(no_mangle)]
 pub extern "C" fn rattle_multiply(number: u32, rounds: u32) -> u8 {
-    work_on_blocks(Work::Multiply, number, rounds)
+    let start = START;
+    let factor = Block::from_bytes(&start[..31]);
+    worked(number, rounds, |blocks, x| blocks.multiply(factor, x))
 }
 
 #[unsafe(no_mangle)]
 pub extern "C" fn rattle_raise_to_q(number: u32, rounds: u32) -> u8 {
-    work_on_blocks(Work::RaiseToQ, number, rounds)
+    worked(number, rounds, |blocks, x| blocks.raise_to_q(x))
 }
 
 #[unsafe(no_mangle)]
 pub extern "C" fn rattle_forward(number: u32, rounds: u32) -> u8 {
-    work_on_blocks(Work::Forward, number, rounds)
+    worked(number, rounds, |blocks, x| raise_forward(blocks, 15, x))
 }
 
 #[unsafe(no_mangle)]
 pub extern "C" fn rattle_back(number: u32, rounds: u32) -> u8 {
-    work_on_blocks(Work::Back, number, rounds)
+    worked(number, rounds, |blocks, x| raise_back(blocks, 15, 15, x))
 }
 
 // Bytes of a simple sequence.
@@ -112,44 +103,29 @@ fn fill(seed: u32, bytes: &mut [u8]) {
 }
 
 // A map on 32 codes.
-fn some_map(seed: u32) -> AffineMap {
+fn some_map(seed: u32) -> AffineMap
+    ensures { size_of result ≡ 32 }
+{
     let mut codes = [0u8; 1056];
     fill(seed, &mut codes);
     AffineMap::from_codes(32, &codes)
 }
 
-// Image after image, of the inverse where there is one.
-fn images<F: Field>(field: &F, map: &AffineMap, rounds: u32, block: &mut [u8])
-    requires { length block.old ≡ map.now.size }
-{
-    for _ in 0..rounds {
-        let mut room = START;
-        if block.len() > 32 {
-            return;
-        }
-        let image = &mut room[0..block.len()];
-        map.apply(field, block, image);
-        block.copy_from_slice(image);
-    }
-}
-
+// Image after image.
 #[unsafe(no_mangle)]
 pub extern "C" fn rattle_apply(number: u32, rounds: u32) -> u8 {
+    let field = Shift::new(number);
     let map = some_map(1);
-    let mut room = START;
-    let block = &mut room[0..map.size()];
-    images(&Shift::new(number), &map, rounds, block);
-    room[0]
+    let block = Block::from_bytes(&START);
+    repeated(|x| map.apply(&field, x), rounds, block).as_slice()[0]
 }
 
+// Whether an odd number of maps have inverses.
 #[unsafe(no_mangle)]
 pub extern "C" fn rattle_invert(number: u32, rounds: u32) -> u8 {
     let field = Shift::new(number);
-    let mut found = 0u8;
-    for seed in 0..rounds {
-        if some_map(seed).inverse(&field).is_some() {
-            found ^= 1;
-        }
-    }
-    found
+    let found = (0..rounds)
+        .filter(|seed| some_map(*seed).inverse(&field).is_some())
+        .count();
+    (found & 1) as u8
 }
