@@ -39,19 +39,6 @@ pub extern "C" fn rattle_tower(number: u32, rounds: u32) -> u8 {
     products(&Tower::new(Shift::new(number), 8), rounds)
 }
 
-// A block after so many steps that keep its size.
-fn repeated<S: Fn(Block) -> Block>(step: S, rounds: u32, block: Block) -> Block
-    requires callable { (x : List ℕ) → length x ≡ length block → S.pre step x }
-    requires stays { (x r : List ℕ) → S.post step x r → length r ≡ length block }
-    ensures { length result ≡ length block }
-{
-    let mut stepped = block;
-    for _ in 0..rounds {
-        stepped = step(stepped);
-    }
-    stepped
-}
-
 // The first byte of a block of 31 codes after so many steps.
 fn worked<S: Fn(&Modular<'_, '_, Shift>, Block) -> Block>(number: u32, rounds: u32, step: S) -> u8
     requires callable { (blocks : _) (x : List ℕ) → length (coefficients blocks.now.modulus.now) ≡ 31 → length x ≡ 31 → S.pre step blocks x }
@@ -59,16 +46,16 @@ fn worked<S: Fn(&Modular<'_, '_, Shift>, Block) -> Block>(number: u32, rounds: u
 {
     let field = Shift::new(number);
     let modulus = Modulus::new(&field, &LOW);
-    let blocks = &Modular {
+    let blocks = Modular {
         field: &field,
         modulus: &modulus,
     };
     let start = START;
-    let block = Block::from_bytes(&start[..31]);
-    let taken = |x|
-        requires { S.pre step blocks x }
-    { step(blocks, x) };
-    repeated(taken, rounds, block).as_slice()[0]
+    let mut block = Block::from_bytes(&start[..31]);
+    for _ in 0..rounds {
+        block = step(&blocks, block);
+    }
+    block.as_slice()[0]
 }
 
 #[unsafe(no_mangle)]
@@ -116,8 +103,11 @@ fn some_map(seed: u32) -> AffineMap
 pub extern "C" fn rattle_apply(number: u32, rounds: u32) -> u8 {
     let field = Shift::new(number);
     let map = some_map(1);
-    let block = Block::from_bytes(&START);
-    repeated(|x| map.apply(&field, x), rounds, block).as_slice()[0]
+    let mut block = Block::from_bytes(&START);
+    for _ in 0..rounds {
+        block = map.apply(&field, block);
+    }
+    block.as_slice()[0]
 }
 
 // Whether an odd number of maps have inverses.
