@@ -1,1 +1,3 @@
 mod BlockText
+mod Answers
+mod Same

@@ -1,3 +1,6 @@
 pub mod Scaled
-pub mod BlockText
 pub mod ScaledLemmas
+pub mod BlockText
+pub mod Words
+pub mod CaseText
+pub mod Cases

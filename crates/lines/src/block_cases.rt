@@ -1,29 +1,35 @@
 //! Cases of blocks, over any field.
-ghost use Rattle.std.specs.Prelude.{◌≡◌, [], length, MatchOption};
-ghost use Rattle.blocks.specs.Moduli.{coefficients};
+ghost use Rattle.std.specs.Prelude.{◌≡◌, [], length, IfSome, MatchOption, Decides};
+ghost use Rattle.algebra.specs.BlockSteps.{back_step};
+ghost use Rattle.lines.specs.Cases.{RuleHolds, BlockHolds, ModulusOf, stepped};
 
 use crate::case::{BlockCase, Step};
 use blocks::{Block, BlockArithmetic, Modular, Modulus, follows_rule, raise_back, raise_forward};
 use field::Field;
 
 /// Whether the modulus with these coefficients follows the rule; none where there are none.
-pub fn rule_kept<F: Field>(field: &F, low: Block) -> Option<bool> {
+pub fn rule_kept<F: Field>(field: &F, low: Block) -> Option<bool>
+    ensures { IfSome result (RuleHolds (F.meaning field.now) low) }
+{
     Some(follows_rule(field, &made_modulus(field, low)?))
 }
 
 /// Whether the step has the result; none where the sizes or the numbers do not fit.
-pub fn block_case_holds<F: Field>(field: &F, case: &BlockCase) -> Option<bool> {
+pub fn block_case_holds<F: Field>(field: &F, case: &BlockCase) -> Option<bool>
+    ensures { IfSome result (λ b. Decides b (BlockHolds (F.meaning field.now) case.now)) }
+{
     let modulus = made_modulus(field, case.modulus)?;
     let blocks = Modular {
         field,
         modulus: &modulus,
     };
-    Some(taken(&blocks, &case.step, case.block)? == case.result)
+    let block = taken(&blocks, &case.step, case.block)?;
+    Some(block == case.result)
 }
 
 // The modulus with these coefficients, if there are any.
 fn made_modulus<F: Field>(field: &F, low: Block) -> Option<Modulus>
-    ensures { MatchOption result (low ≡ []) (λ m. coefficients m ≡ low) }
+    ensures { MatchOption result (low ≡ []) (ModulusOf (F.meaning field.now) low) }
 {
     if low.len() == 0 {
         return None;
@@ -32,7 +38,9 @@ fn made_modulus<F: Field>(field: &F, low: Block) -> Option<Modulus>
 }
 
 // The block after the step.
-fn taken<B: BlockArithmetic>(blocks: &B, step: &Step, block: Block) -> Option<Block> {
+fn taken<B: BlockArithmetic>(blocks: &B, step: &Step, block: Block) -> Option<Block>
+    ensures { IfSome result (λ r. r ≡ stepped (B.arithmetic blocks.now) step.now block) }
+{
     if block.len() != blocks.size() {
         return None;
     }
@@ -49,6 +57,7 @@ fn taken<B: BlockArithmetic>(blocks: &B, step: &Step, block: Block) -> Option<Bl
 
 fn raised_back<B: BlockArithmetic>(blocks: &B, l: usize, t: usize, block: Block) -> Option<Block>
     requires { length block ≡ (B.arithmetic blocks.now).size }
+    ensures { IfSome result (λ r. r ≡ back_step (B.arithmetic blocks.now) l t block) }
 {
     let fits = l > 0 && t > 0 && t < blocks.size();
     fits.then(|| raise_back(blocks, l, t, block))

@@ -1,4 +1,7 @@
 //! Cases as lines have them: the kind, and what it takes; the name of a field follows.
+ghost use Rattle.std.specs.Prelude.{IfSome};
+ghost use Rattle.lines.specs.CaseText.{FieldCaseThen, StepThen, BlockCaseThen, MapCaseThen, MapThen, CaseThen, SaysOfField, Says};
+
 use crate::case::{BlockCase, Case, FieldCase, MapCase, Step};
 use crate::map_cases::made_map;
 use crate::words::Words;
@@ -8,7 +11,9 @@ use blocks::{AffineMap, Block};
 const MOST_CODES: usize = 1056;
 
 /// The case that a line begins with, and the name of a field behind it.
-pub fn read_line(line: &str) -> Option<(Case, &str)> {
+pub fn read_line(line: &str) -> Option<(Case, &str)>
+    ensures { IfSome result (λ x. Says line.now x.0 x.1.now) }
+{
     let mut words = Words { rest: line };
     let kind = words.word()?;
     let case = read_case(kind, &mut words)?;
@@ -16,17 +21,27 @@ pub fn read_line(line: &str) -> Option<(Case, &str)> {
 }
 
 /// The same of a line of a field alone.
-pub fn read_field_line(line: &str) -> Option<(FieldCase, &str)> {
+pub fn read_field_line(line: &str) -> Option<(FieldCase, &str)>
+    ensures { IfSome result (λ x. SaysOfField line.now x.0 x.1.now) }
+{
     let mut words = Words { rest: line };
     let kind = words.word()?;
     let case = read_field_case(kind, &mut words)?;
     Some((case, words.rest))
 }
 
-fn read_case(kind: &str, words: &mut Words) -> Option<Case> {
+fn read_case(kind: &str, words: &mut Words) -> Option<Case>
+    ensures { IfSome result (λ case. CaseThen kind.now words.old.rest.now case words.new.rest.now) }
+{
     match kind {
-        "rule" => read_rule(words, true),
-        "no-rule" => read_rule(words, false),
+        "rule" => Some(Case::Rule {
+            modulus: words.block()?,
+            kept: true,
+        }),
+        "no-rule" => Some(Case::Rule {
+            modulus: words.block()?,
+            kept: false,
+        }),
         "apply" => Some(Case::Apply(read_map_case(words)?)),
         "solve" => Some(Case::Solve(read_map_case(words)?)),
         "singular" => Some(Case::Singular(read_singular(words)?)),
@@ -37,7 +52,9 @@ fn read_case(kind: &str, words: &mut Words) -> Option<Case> {
     }
 }
 
-fn read_field_case(kind: &str, words: &mut Words) -> Option<FieldCase> {
+fn read_field_case(kind: &str, words: &mut Words) -> Option<FieldCase>
+    ensures { IfSome result (λ case. FieldCaseThen kind.now words.old.rest.now case words.new.rest.now) }
+{
     match kind {
         "product" => Some(FieldCase::Product {
             a: words.byte()?,
@@ -52,12 +69,9 @@ fn read_field_case(kind: &str, words: &mut Words) -> Option<FieldCase> {
     }
 }
 
-fn read_rule(words: &mut Words, kept: bool) -> Option<Case> {
-    let modulus = words.block()?;
-    Some(Case::Rule { modulus, kept })
-}
-
-fn read_map_case(words: &mut Words) -> Option<MapCase> {
+fn read_map_case(words: &mut Words) -> Option<MapCase>
+    ensures { IfSome result (λ case. MapCaseThen words.old.rest.now case words.new.rest.now) }
+{
     let codes = words.bytes::<MOST_CODES>()?;
     let block = words.block()?;
     let image = words.block()?;
@@ -65,13 +79,17 @@ fn read_map_case(words: &mut Words) -> Option<MapCase> {
     Some(MapCase { map, block, image })
 }
 
-fn read_singular(words: &mut Words) -> Option<AffineMap> {
+fn read_singular(words: &mut Words) -> Option<AffineMap>
+    ensures { IfSome result (λ m. MapThen words.old.rest.now m words.new.rest.now) }
+{
     let codes = words.bytes::<MOST_CODES>()?;
     let size = words.byte()?;
     made_map(codes.as_slice(), usize::from(size))
 }
 
-fn read_block_case(kind: &str, words: &mut Words) -> Option<BlockCase> {
+fn read_block_case(kind: &str, words: &mut Words) -> Option<BlockCase>
+    ensures { IfSome result (λ case. BlockCaseThen kind.now words.old.rest.now case words.new.rest.now) }
+{
     let (step, modulus) = read_step(kind, words)?;
     Some(BlockCase {
         step,
@@ -82,25 +100,23 @@ fn read_block_case(kind: &str, words: &mut Words) -> Option<BlockCase> {
 }
 
 // The step of that kind, and its modulus.
-fn read_step(kind: &str, words: &mut Words) -> Option<(Step, Block)> {
+fn read_step(kind: &str, words: &mut Words) -> Option<(Step, Block)>
+    ensures { IfSome result (λ x. StepThen kind.now words.old.rest.now x.0 x.1 words.new.rest.now) }
+{
     match kind {
-        "multiply" => read_multiply(words),
+        "multiply" => {
+            let modulus = words.block()?;
+            let factor = words.block()?;
+            Some((Step::Multiply(factor), modulus))
+        }
         "square" => Some((Step::Square, words.block()?)),
         "frobenius" => Some((Step::Frobenius, words.block()?)),
         "forward" => Some((Step::Forward(words.byte()?), words.block()?)),
-        "back" => read_back(words),
+        "back" => {
+            let l = words.byte()?;
+            let t = words.byte()?;
+            Some((Step::Back { l, t }, words.block()?))
+        }
         _ => None,
     }
-}
-
-fn read_multiply(words: &mut Words) -> Option<(Step, Block)> {
-    let modulus = words.block()?;
-    let factor = words.block()?;
-    Some((Step::Multiply(factor), modulus))
-}
-
-fn read_back(words: &mut Words) -> Option<(Step, Block)> {
-    let l = words.byte()?;
-    let t = words.byte()?;
-    Some((Step::Back { l, t }, words.block()?))
 }

@@ -1,4 +1,7 @@
 //! The words of a line, from the left.
+ghost use Rattle.std.specs.Prelude.{IfSome};
+ghost use Rattle.lines.specs.Words.{WordThen, ByteThen, BytesThen};
+
 use crate::block_text::{read_block, read_byte, read_bytes};
 use arrayvec::ArrayVec;
 use blocks::Block;
@@ -11,24 +14,32 @@ pub struct Words<'a> {
 
 impl<'a> Words<'a> {
     /// The text before the first space; none where there is no space.
-    pub fn word(&mut self) -> Option<&'a str> {
+    pub fn word(&mut self) -> Option<&'a str>
+        ensures { IfSome result (λ w. WordThen self.old.rest.now w.now self.new.rest.now) }
+    {
         let (first, rest) = self.rest.split_once(' ')?;
         self.rest = rest;
         Some(first)
     }
 
     /// The next word as a byte.
-    pub fn byte(&mut self) -> Option<u8> {
+    pub fn byte(&mut self) -> Option<u8>
+        ensures { IfSome result (λ n. ByteThen self.old.rest.now n self.new.rest.now) }
+    {
         read_byte(self.word()?)
     }
 
     /// The next word as a block.
-    pub fn block(&mut self) -> Option<Block> {
+    pub fn block(&mut self) -> Option<Block>
+        ensures { IfSome result (λ b. BytesThen self.old.rest.now b self.new.rest.now) }
+    {
         read_block(self.word()?)
     }
 
     /// The next word as at most N bytes.
-    pub fn bytes<const N: usize>(&mut self) -> Option<ArrayVec<u8, N>> {
+    pub fn bytes<const N: usize>(&mut self) -> Option<ArrayVec<u8, N>>
+        ensures { IfSome result (λ v. BytesThen self.old.rest.now v.items self.new.rest.now) }
+    {
         read_bytes(self.word()?)
     }
 }
