@@ -6,7 +6,8 @@ use lines::{field_line_holds, tally};
 use std::io;
 
 fn main(rt: HostRuntime) -> io::Result<()> {
-    tally(&rt, field_line_holds)
+    // A closure: the check finds no contract of another crate's function that is given as a value.
+    tally(&rt, |line| field_line_holds(line))
 }
 
 #[cfg(test)]

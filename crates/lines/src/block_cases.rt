@@ -31,7 +31,7 @@ pub fn block_case_holds<F: Field>(field: &F, case: &BlockCase) -> Option<bool>
 fn made_modulus<F: Field>(field: &F, low: Block) -> Option<Modulus>
     ensures { MatchOption result (low ≡ []) (ModulusOf (F.meaning field.now) low) }
 {
-    if low.len() == 0 {
+    if low.size() == 0 {
         return None;
     }
     Some(Modulus::new(field, low.as_slice()))
@@ -41,12 +41,12 @@ fn made_modulus<F: Field>(field: &F, low: Block) -> Option<Modulus>
 fn taken<B: BlockArithmetic>(blocks: &B, step: &Step, block: Block) -> Option<Block>
     ensures { IfSome result (λ r. r ≡ stepped (B.arithmetic blocks.now) step.now block) }
 {
-    if block.len() != blocks.size() {
+    if block.size() != blocks.size() {
         return None;
     }
     match *step {
         Step::Multiply(factor) => {
-            (factor.len() == blocks.size()).then(|| blocks.multiply(factor, block))
+            (factor.size() == blocks.size()).then(|| blocks.multiply(factor, block))
         }
         Step::Square => Some(blocks.square(block)),
         Step::Frobenius => Some(blocks.raise_to_q(block)),

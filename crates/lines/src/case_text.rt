@@ -75,7 +75,7 @@ fn read_map_case(words: &mut Words) -> Option<MapCase>
     let codes = words.bytes::<MOST_CODES>()?;
     let block = words.block()?;
     let image = words.block()?;
-    let map = made_map(codes.as_slice(), block.len())?;
+    let map = made_map(codes.as_slice(), block.size())?;
     Some(MapCase { map, block, image })
 }
 

@@ -13,7 +13,7 @@ use crate::map_cases::{map_applies, map_is_singular, map_solves};
 use crate::scaled_value::Scaled;
 use crate::words::Words;
 use field::Field;
-use named::{Storey, field_named};
+use named::Storey;
 
 /// Whether a line says of the field that it names what is so: `product A B R NAME`, `width W NAME`, `one O NAME`, `sound NAME` or
 /// `unsound NAME`. No other line does.
@@ -53,7 +53,7 @@ fn says(line: &str) -> Option<bool>
 fn named(text: &str) -> Option<Storey>
     ensures { IfSome result (λ f. Names text.now (storey f)) }
 {
-    field_named(text).ok()
+    text.parse().ok()
 }
 
 // A factor, a one, and the name of the field below.

@@ -47,6 +47,6 @@ pub fn map_is_singular<F: Field>(field: &F, map: &AffineMap) -> bool
 fn sends<F: Field>(field: &F, map: &AffineMap, block: Block, other: Block) -> Option<bool>
     ensures { IfSome result (λ b. Decides b (image (F.meaning field.now) map.now block ≡ other)) }
 {
-    let fits = block.len() == map.size() && other.len() == map.size();
+    let fits = block.size() == map.size() && other.size() == map.size();
     fits.then(|| map.apply(field, block) == other)
 }

@@ -28,7 +28,7 @@ impl<F: Field> Field for Scaled<F> {
     }
 
     fn one(&self) -> u8 {
-        self.one & ((1u32 << self.base.width()) - 1) as u8
+        self.one & self.base.largest_code()
     }
 
     fn product(&self, a: u8, b: u8) -> u8 {

@@ -6,7 +6,8 @@ use lines::{line_holds, tally};
 use std::io;
 
 fn main(rt: HostRuntime) -> io::Result<()> {
-    tally(&rt, line_holds)
+    // A closure: the check finds no contract of another crate's function that is given as a value.
+    tally(&rt, |line| line_holds(line))
 }
 
 #[cfg(test)]
