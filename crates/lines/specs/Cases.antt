@@ -1,5 +1,5 @@
 -- What cases say.
-use Rattle.std.specs.Prelude.{◌≡◌, ℕ, Bool, true, List, ◌++◌, codes}
+use Rattle.std.specs.Prelude.{◌≡◌, ℕ, ◌<◌, ◌≤◌, Bool, true, List, ◌++◌, length, codes, ⊤}
 use Rattle.algebra.specs.Affine.{OneToOne}
 use Rattle.algebra.specs.Arithmetic.{Arithmetic}
 use Rattle.algebra.specs.BlockSteps.{forward_step, back_step}
@@ -45,6 +45,14 @@ stepped A Square block = A.product block block
 stepped A Frobenius block = A.q_power block
 stepped A (Forward t) block = forward_step A t block
 stepped A (Back l t) block = back_step A l t block
+
+-- whether a step is one on blocks of that size
+abbrev pub StepFits : ℕ → Step → Type 0
+StepFits size (Multiply factor) = length factor ≡ size
+StepFits size Square = ⊤
+StepFits size Frobenius = ⊤
+StepFits size (Forward t) = ⊤
+StepFits size (Back l t) = (1 ≤ l) × (1 ≤ t) × (t < size)
 
 -- of a step: what it makes of a block
 abbrev pub BlockHolds : Meaning → BlockCase → Type 0

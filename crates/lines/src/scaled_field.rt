@@ -23,6 +23,7 @@ impl<F: Field> Field for Scaled<F> {
 
     ghost laws = { λ t. scaled_laws (F.Field.meaning t.base) (F.Field.shape t.base) t.factor t.one (F.Field.laws t.base) };
 
+    #[tactic(auto, unfolding(crate::specs::Scaled::scaled))]
     fn width(&self) -> u8 {
         self.base.width()
     }
