@@ -11,6 +11,7 @@ use std::marker::Model;
 pub const WIDEST: usize = 32;
 
 /// A block of at most 32 bytes. It is seen as the list of them; behind them its room holds zeros.
+// No heap, so its length stands beside its room; outside this file it is the list.
 #[derive(Clone, Copy, PartialEq, Eq, Debug)]
 pub struct Block {
     pub(crate) size: usize,
@@ -33,6 +34,7 @@ impl Model for Block {
 }
 
 impl Block {
+    // A size is a number up to 32 in four calls: a type for it would have each of them called with one made by a check.
     /// So many zeros.
     pub fn zeros(size: usize) -> Block
         requires { size ≤ 32 }

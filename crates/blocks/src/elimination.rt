@@ -34,6 +34,7 @@ fn pivot_place(row: &[u8], k: usize) -> Option<usize>
     (k..row.len()).find(|j| row[*j] != 0)
 }
 
+// A row's number k is below the number of rows: that relates two values, and a type that held both would name both in each clause.
 impl Elimination {
     // All rows after a change.
     fn changed<F: Field>(self, field: &F, shear: &Shear) -> Elimination

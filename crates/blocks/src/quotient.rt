@@ -19,6 +19,7 @@ pub(crate) struct Quotient<'f, F> {
     ghost some: { 1 ≤ length low },
 }
 
+// Each result has the size of `low`; a type for blocks of that size would have to name the quotient, as the clauses do.
 impl<F: Field> Quotient<'_, F> {
     /// The product of two blocks.
     pub(crate) fn product(&self, a: Block, b: Block) -> Block

@@ -25,6 +25,7 @@ pub fn read_bytes<const N: usize>(text: &str) -> Option<ArrayVec<u8, N>>
 }
 
 /// The block that the text is: at most 32 bytes, parted by commas.
+// No `FromStr`: both the trait and the type are of other crates.
 pub fn read_block(text: &str) -> Option<Block>
     ensures { IfSome result (λ b. ReadsBlock text.now b) }
 {
