@@ -1,4 +1,4 @@
-mod Rooms
+pub mod Rooms
 mod Moving
 mod Writing
 mod Coefficients

@@ -19,7 +19,7 @@ Even rows = (i : ℕ) → i < length rows → length (slice_index_or rows i []) 
 abbrev pub in_rooms : List (List ℕ) → List (List ℕ)
 in_rooms rows = rows ++ replicate (32 - length rows) []
 
--- so many rows at the start count, each as long as they are many, and the rest are empty
+-- so many rows at the start count, each of that many bytes, and the rest are empty
 pub record FillsSquare (size : ℕ) (rooms : List (List ℕ)) : Type 0 where
   pub few : size ≤ 32
   pub whole : length (take size rooms) ≡ size

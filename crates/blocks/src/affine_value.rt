@@ -8,6 +8,7 @@ use crate::square::Square;
 pub struct AffineMap {
     pub(crate) constants: Block,
     pub(crate) rows: Square,
+    // Again: in a clause a value is its list, whose type says no length.
     ghost few: { length constants ≤ 32 },
     ghost tall: { length rows ≡ length constants },
 }

@@ -6,7 +6,7 @@ use crate::block::Block;
 
 /// Arithmetic on the blocks of one size over a field: products, and the q-th power, where q is how many codes the field has.
 /// It works on bytes that need not be codes; what its laws are is said of codes.
-// Each call asks that a block have its size: that relates two values, and a type that held both would name both in each clause.
+// Every call, here and above, asks for a block of the arithmetic's size: that relates two arguments, and a struct of both would name both again.
 pub trait BlockArithmetic {
     ghost arithmetic: { Self → Arithmetic };
 

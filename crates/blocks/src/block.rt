@@ -34,7 +34,7 @@ impl Model for Block {
 }
 
 impl Block {
-    // A size is a number up to 32 in four calls: a type for it would have each of them called with one made by a check.
+    // A size is a number up to 32 in four calls, and three answer one: a type for it would have each of them called with one made by a check.
     /// So many zeros.
     pub fn zeros(size: usize) -> Block
         requires { size ≤ 32 }

@@ -19,7 +19,7 @@ fn inverse_below<F: Field>(field: &F, a: u8, last: u8) -> Option<u8>
     (0..last).find(|b| field.product(a, *b) == one)
 }
 
-// The code that makes the one with `a`; it is the last where no other does.
+// The code that makes the one with `a`. In a sound field every code but 0 has an inverse, so where none below the last is one, the last is.
 fn inverse_code<F: Field>(field: &F, a: u8) -> u8
     ensures { result ≡ inverse_code (F.meaning field.now) a }
 {
@@ -35,6 +35,7 @@ fn pivot_place(row: &[u8], k: usize) -> Option<usize>
 }
 
 // A row's number k is below the number of rows: that relates two values, and a type that held both would name both in each clause.
+// The field is passed beside: a value that holds a reference and a ghost field could not be handed on by value.
 impl Elimination {
     // All rows after a change.
     fn changed<F: Field>(self, field: &F, shear: &Shear) -> Elimination
@@ -107,7 +108,7 @@ impl Elimination {
         ensures verdict { Laws (F.meaning field.now) → Squared (F.meaning field.now) (length self.work) self.work → self.account ≡ basis_from (on_bytes (F.meaning field.now)) (length self.work) 0 (length self.work) → MatchOption result (DecidesInverse (F.meaning field.now) (length self.work) self.work false []) (DecidesInverse (F.meaning field.now) (length self.work) self.work true) }
     {
         let mut state = self;
-        // Each row is reduced in what the rows before made of all of them, so no iterator over rows fits.
+        // Each row is reduced in what the rows before made of all of them, so no iterator over rows fits; a `try_fold` over places is no plainer.
         for k in 0..state.work.size() {
             state = state.reduced(field, k)?;
         }

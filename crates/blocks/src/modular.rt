@@ -10,6 +10,7 @@ use crate::quotient::Quotient;
 use field::Field;
 
 impl<'f, 'm, F: Field> Modular<'f, 'm, F> {
+    /// What its products take.
     pub(crate) fn quotient(&self) -> Quotient<'f, F>
         ensures field { result.field.now ≡ self.now.field.now }
         ensures low { result.low ≡ self.now.modulus.now.low }

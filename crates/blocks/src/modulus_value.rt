@@ -9,6 +9,7 @@ pub struct Modulus {
     pub(crate) low: Block,
     pub(crate) rows: Square,
     ghost some: { 1 ≤ length low },
+    // Again: in a clause a value is its list, whose type says no length.
     ghost few: { length low ≤ 32 },
     ghost tall: { length rows ≡ length low },
 }

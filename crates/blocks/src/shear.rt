@@ -27,7 +27,7 @@ impl Shear {
         row.plus_multiple(field, multiple, self.step)
     }
 
-    /// All rows after it.
+    /// All rows, each after the change.
     pub(crate) fn rows<F: Field>(&self, field: &F, rows: &Square) -> Square
         requires place { self.now.place < length rows.now }
         requires size { length self.now.step ≡ length rows.now }

@@ -9,7 +9,8 @@ use field::Field;
 use std::marker::Model;
 
 /// At most 32 rows, each with as many bytes as there are rows. It is seen as the list of them; behind them lie empty rows.
-// No heap, so the number of rows stands beside their rooms; outside this file it is the list.
+// No heap, so the number of rows stands beside their rooms; outside this file it is the list. Not one type with `Block`: what lies behind differs, and
+// so does what is asked of each element.
 #[derive(Clone, Copy)]
 pub struct Square {
     pub(crate) size: usize,
@@ -57,7 +58,7 @@ impl Square {
         // No heap: rooms, of which the first count.
         let mut rooms = [Block::zeros(size); WIDEST];
         let rows = &mut rooms[..size];
-        // Where there are no rows, there are no bytes for a chunk of one.
+        // Chunks of 0 are refused; where there are no rows there are no bytes either.
         for (i, row) in bytes.chunks_exact(size.max(1)).enumerate() {
             rows[i] = Block::from_bytes(row);
         }

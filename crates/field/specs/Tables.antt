@@ -3,7 +3,7 @@ use Rattle.std.specs.Prelude.{ℕ, cond, List, Some, None, Option, nat_eq, nat_l
 use Rattle.algebra.specs.Search.{first_from}
 use Rattle.algebra.specs.PowerTable.{logarithm, stands}
 
--- the logarithm of a code, if it is not 0 and has one
+-- for a p that makes a field, the logarithm of a code, if it is not 0 and has one
 unfoldable pub kept_log : ℕ → ℕ → ℕ → Option ℕ
 kept_log p g a = cond (stands p g a) (Some (logarithm p g a)) None
 

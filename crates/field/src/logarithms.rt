@@ -35,6 +35,7 @@ fn round(i: u8, j: u8, places: u8) -> usize
 }
 
 impl Logarithms {
+    /// Those to the base of a generator, of which the low bits count.
     pub fn of(base: Residues, generator: u32) -> Logarithms
         ensures base { result.base ≡ base }
         ensures generator { result.generator ≡ generator }

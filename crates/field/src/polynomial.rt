@@ -50,7 +50,7 @@ impl Polynomial {
         ensures { result ≡ number (times two (bits self.now.width self.now.coefficients) (bits digits a) (bits self.now.width b)) }
     {
         let mut r = 0u32;
-        // the places of bits are no collection to go through
+        // The bits of a number are no collection.
         for i in (0..digits).rev() {
             let doubled = r << 1;
             let reduced = doubled ^ select(doubled >> self.width, self.coefficients);

@@ -3,7 +3,7 @@ ghost use Rattle.std.specs.Prelude.{◌≡◌, ◌<◌, true, IfSome};
 ghost use Rattle.algebra.specs.Shift.{shift};
 ghost use Rattle.field.specs.Standard.{standard};
 
-// in the order of the widths, from 1 to 8
+// In the order of the widths, from 1 to 8.
 const POLYNOMIALS: [u32; 8] = [2, 7, 11, 19, 37, 67, 131, 283];
 
 /// The polynomial of a width from 1 to 8, whose shift field is sound; nothing for any other number.

@@ -6,7 +6,7 @@ ghost use Rattle.field.specs.Tables.{lowest};
 
 use crate::residues::Residues;
 
-// The powers of `generator`, of which the low bits count.
+/// The powers of `generator`, of which the low bits count.
 pub fn powers_of(base: &Residues, generator: u32) -> [u8; 256]
     ensures { (k : ℕ) → k < 256 → slice_index result k ≡ entry base.now.modulus.coefficients generator k }
 {
@@ -20,13 +20,13 @@ pub fn powers_of(base: &Residues, generator: u32) -> [u8; 256]
     powers
 }
 
-// For each byte but 0 the lowest of the first `places` places where it stands, if it stands at one; for 0 nothing.
+/// For each byte but 0 the lowest of the first `places` places where it stands, if it stands at one; for 0 nothing.
 pub fn lowest_places(powers: &[u8; 256], places: u8) -> [Option<u8>; 256]
     ensures zero { slice_index_or result 0 None ≡ None }
     ensures lowest { (a : ℕ) → 0 < a → a < 256 → slice_index_or result a None ≡ lowest powers.now places a }
 {
     let mut logs = [None; 256];
-    // the place is what is written
+    // By place: the place is what is written.
     for k in (0..places).rev() {
         logs[powers[k as usize] as usize] = Some(k);
     }
@@ -34,7 +34,7 @@ pub fn lowest_places(powers: &[u8; 256], places: u8) -> [Option<u8>; 256]
     logs
 }
 
-// Whether every byte from 1 to `places` stands somewhere.
+/// Whether every byte from 1 to `places` stands somewhere.
 pub fn all_stand(logs: &[Option<u8>; 256], places: u8) -> bool
     ensures { result ≡ list_all is_some (slice_range logs.now 1 (places + 1)) }
 {

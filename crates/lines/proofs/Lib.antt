@@ -1,3 +1,2 @@
 mod BlockText
 mod Answers
-mod Same

@@ -62,10 +62,6 @@ CaseThen kind text (Apply case) rest = (kind ≡ codes "apply") × MapCaseThen t
 CaseThen kind text (Solve case) rest = (kind ≡ codes "solve") × MapCaseThen text case rest
 CaseThen kind text (Singular map) rest = (kind ≡ codes "singular") × MapThen text map rest
 
--- the line is such a case of a field alone and a name
-abbrev pub SaysOfField : List ℕ → FieldCase → List ℕ → Type 0
-SaysOfField line case name = (kind : List ℕ) × (rest : List ℕ) × WordThen line kind rest × FieldCaseThen kind rest case name
-
 -- the line is such a case and a name
 abbrev pub Says : List ℕ → Case → List ℕ → Type 0
 Says line case name = (kind : List ℕ) × (rest : List ℕ) × WordThen line kind rest × CaseThen kind rest case name

@@ -18,7 +18,7 @@ use Rattle.lines.specs.declared.case.FieldCase.TheVariants.{Product, Width, One,
 use Rattle.lines.specs.declared.case.MapCase.{MapCase}
 use Rattle.lines.specs.declared.case.Step.{Step}
 use Rattle.lines.specs.declared.case.Step.TheVariants.{Multiply, Square, Frobenius, Forward, Back}
-use Rattle.lines.specs.CaseText.{SaysOfField, Says}
+use Rattle.lines.specs.CaseText.{Says}
 use Rattle.lines.specs.Scaled.{scaled}
 use Rattle.lines.specs.Words.{ByteThen}
 
@@ -69,7 +69,7 @@ pub record SolveHolds (M : Meaning) (case : MapCase) : Type 0 where
   pub back : image M inverse case.image ≡ case.block
   pub undone : M.sound ≡ true → MapCodes M case.map → UndoneBy M case.map inverse
 
--- and that it has none
+-- of a map: that it has no inverse, since it is not one to one
 abbrev pub SingularHolds : Meaning → AffineMap → Type 0
 SingularHolds M map = M.sound ≡ true → MapCodes M map → OneToOne M (size_of map) (image M map) → ⊥
 
@@ -93,7 +93,7 @@ pub record FieldLineHolds (line : List ℕ) : Type 0 where
   pub case : FieldCase
   pub name : List ℕ
   pub M : Meaning
-  pub says : SaysOfField line case name
+  pub says : Says line (Field case) name
   pub names : Names name M
   pub holds : FieldHolds M case
 

@@ -57,6 +57,7 @@ fn taken<B: BlockArithmetic>(blocks: &B, step: &Step, block: Block) -> Option<Bl
     }
 }
 
+// The block after a step back; none where l or t does not suit the size.
 fn raised_back<B: BlockArithmetic>(blocks: &B, l: usize, t: usize, block: Block) -> Option<Block>
     requires { length block ≡ (B.arithmetic blocks.now).size }
     ensures value { IfSome result (λ r. r ≡ back_step (B.arithmetic blocks.now) l t block) }

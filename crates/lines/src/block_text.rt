@@ -6,6 +6,7 @@ use arrayvec::ArrayVec;
 use blocks::{Block, WIDEST};
 
 /// The byte that the text is.
+// As with numbers of 32 bits in `named`, one call of `parse`: a generic one would be no plainer.
 pub fn read_byte(text: &str) -> Option<u8>
     ensures { MatchOption result ((n : ℕ) → ReadsByte text.now n → ⊥) (λ n. ReadsByte text.now n) }
 {
@@ -25,7 +26,7 @@ pub fn read_bytes<const N: usize>(text: &str) -> Option<ArrayVec<u8, N>>
 }
 
 /// The block that the text is: at most 32 bytes, parted by commas.
-// No `FromStr`: both the trait and the type are of other crates.
+// No `FromStr`: trait and type are both of other crates.
 pub fn read_block(text: &str) -> Option<Block>
     ensures { IfSome result (λ b. ReadsBlock text.now b) }
 {

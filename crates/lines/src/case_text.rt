@@ -1,6 +1,6 @@
 //! Cases as lines have them: the kind, and what it takes; the name of a field follows.
 ghost use Rattle.std.specs.Prelude.{IfSome};
-ghost use Rattle.lines.specs.CaseText.{FieldCaseThen, StepThen, BlockCaseThen, MapCaseThen, MapThen, CaseThen, SaysOfField, Says};
+ghost use Rattle.lines.specs.CaseText.{FieldCaseThen, StepThen, BlockCaseThen, MapCaseThen, MapThen, CaseThen, Says};
 
 use crate::case::{BlockCase, Case, FieldCase, MapCase, Step};
 use crate::map_cases::made_map;
@@ -17,16 +17,6 @@ pub fn read_line(line: &str) -> Option<(Case, &str)>
     let mut words = Words { rest: line };
     let kind = words.word()?;
     let case = read_case(kind, &mut words)?;
-    Some((case, words.rest))
-}
-
-/// The same of a line of a field alone.
-pub fn read_field_line(line: &str) -> Option<(FieldCase, &str)>
-    ensures { IfSome result (λ x. SaysOfField line.now x.0 x.1.now) }
-{
-    let mut words = Words { rest: line };
-    let kind = words.word()?;
-    let case = read_field_case(kind, &mut words)?;
     Some((case, words.rest))
 }
 

@@ -7,7 +7,7 @@ ghost use Rattle.lines.specs.Scaled.{scaled};
 
 use crate::block_cases::{block_case_holds, rule_kept};
 use crate::case::Case;
-use crate::case_text::{read_field_line, read_line};
+use crate::case_text::read_line;
 use crate::field_cases::field_case_holds;
 use crate::map_cases::{map_applies, map_is_singular, map_solves};
 use crate::scaled_value::Scaled;
@@ -33,8 +33,10 @@ pub fn line_holds(line: &str) -> bool
 fn says_of_field(line: &str) -> Option<bool>
     ensures { result ≡ Some true → FieldLineHolds line.now }
 {
-    let (case, name) = read_field_line(line)?;
-    Some(field_case_holds(&named(name)?, &case))
+    let Some((Case::Field(case), name)) = read_line(line) else {
+        return None;
+    };
+    Some(field_case_holds(&field_of(name)?, &case))
 }
 
 fn says(line: &str) -> Option<bool>
@@ -46,12 +48,12 @@ fn says(line: &str) -> Option<bool>
     };
     match name.strip_prefix("scaled ") {
         Some(rest) => case_holds(&scaled_named(rest)?, &case),
-        None => case_holds(&named(name)?, &case),
+        None => case_holds(&field_of(name)?, &case),
     }
 }
 
 // The field that a text names.
-fn named(text: &str) -> Option<Storey>
+fn field_of(text: &str) -> Option<Storey>
     ensures { IfSome result (λ f. Names text.now (storey f)) }
 {
     text.parse().ok()
@@ -64,7 +66,7 @@ fn scaled_named(text: &str) -> Option<Scaled<Storey>>
     let mut words = Words { rest: text };
     let factor = words.byte()?;
     let one = words.byte()?;
-    Some(Scaled::new(named(words.rest)?, factor, one))
+    Some(Scaled::new(field_of(words.rest)?, factor, one))
 }
 
 fn case_holds<F: Field>(field: &F, case: &Case) -> Option<bool>

@@ -4,7 +4,7 @@ ghost use Rattle.named.specs.Standing.{ground_shape, ground_laws};
 use crate::ground::Ground;
 use field::Field;
 
-// Each method has its match: the field in it may not be handed out as a `&dyn Field`, and a closure that takes one gets no proof.
+// Each method has its match: the gate refuses to hand the field out as a `&dyn Field`, and with a closure that takes one the proof did not close.
 impl Field for Ground {
     ghost meaning = { ground };
 

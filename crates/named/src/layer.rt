@@ -13,6 +13,7 @@ pub enum Layer<'a> {
     Tower(u32, &'a str),
 }
 
+/// The first word of a name, and what stands behind it; no `FromStr`, since a tower keeps the rest of the text.
 pub fn read_layer(text: &str) -> Result<Layer<'_>, Misnamed>
     ensures { MatchResult result (Says text.now) (Faulty text.now) }
 {

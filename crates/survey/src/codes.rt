@@ -45,5 +45,6 @@ pub fn longest_period<F: Field>(field: &F) -> u16
     (0..=field.largest_code())
         .filter_map(|a| period(field, a))
         .max()
+        // 0 where no code has one, as the survey prints it.
         .unwrap_or(0)
 }

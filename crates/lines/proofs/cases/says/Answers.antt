@@ -18,14 +18,14 @@ returns-in_ok-scaled_named-in-Some-strip_prefix c = λ e.
       holds = c.case_holds.ensures e;
     }
 
-pub returns-in_ok-named-in-None : goal.returns-in_ok-named-in-None
-returns-in_ok-named-in-None c = λ e.
-    let f = c.in_ok-named-in-None.field-0 in
+pub returns-in_ok-field_of-in-None : goal.returns-in_ok-field_of-in-None
+returns-in_ok-field_of-in-None c = λ e.
+    let f = c.in_ok-field_of-in-None.field-0 in
     record {
       case = c.in-Some.case;
       name = c.in-Some.name.now;
       M = storey f;
       says = c.in-Some.ensures;
-      names = plain c.in-Some.name.now (storey f) c.in_ok-named-in-None.ensures;
+      names = plain c.in-Some.name.now (storey f) c.in_ok-field_of-in-None.ensures;
       holds = c.case_holds-in-None.ensures e;
     }
