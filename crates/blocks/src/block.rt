@@ -93,7 +93,7 @@ impl Block {
         ensures value { result ≡ plus (on_bytes (F.meaning field.now)) (scale (on_bytes (F.meaning field.now)) factor other) self }
         ensures size { length result ≡ length self }
     {
-        // No heap: a room, of which the start counts.
+        // No heap: a room beside. A block's own is lent to no call, so that what lies behind the block stays zeros.
         let mut room = [0u8; WIDEST];
         let sum = &mut room[..self.size];
         sum.copy_from_slice(self.as_slice());

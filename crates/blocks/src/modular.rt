@@ -39,6 +39,7 @@ impl<'f, 'm, F: Field> BlockArithmetic for Modular<'f, 'm, F> {
         self.quotient().product(a, b)
     }
 
+    // Beside `multiply` and not by it in the trait, since hardware may square in a way of its own.
     fn square(&self, block: Block) -> Block {
         self.quotient().product(block, block)
     }

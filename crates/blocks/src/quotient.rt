@@ -27,7 +27,7 @@ impl<F: Field> Quotient<'_, F> {
         ensures value { result ≡ times (on_bytes (F.meaning self.now.field.now)) self.now.low a b }
         ensures size { length result ≡ length self.now.low }
     {
-        // No heap: a room, of which the start counts.
+        // No heap: a room, of which the start counts, for a call that writes to a slice.
         let mut room = [0u8; WIDEST];
         let product = &mut room[..b.size()];
         multiply(
@@ -54,7 +54,7 @@ impl<F: Field> Quotient<'_, F> {
         ensures size { length result ≡ length self.now.low }
     {
         let one = self.one();
-        // No heap: a room, of which the start counts.
+        // No heap: a room, of which the start counts, for a call that writes to a slice.
         let mut room = [0u8; WIDEST];
         let x = &mut room[..one.size()];
         x.copy_from_slice(one.as_slice());
