@@ -19,7 +19,8 @@ fn inverse_below<F: Field>(field: &F, a: u8, last: u8) -> Option<u8>
     (0..last).find(|b| field.product(a, *b) == one)
 }
 
-// The code that makes the one with `a`. In a sound field every code but 0 has an inverse, so where none below the last is one, the last is.
+// The code that makes the one with `a`. No option, which would be no plainer: over a sound field, where `a` is not 0 and none below the last does,
+// the last does; elsewhere nothing is asked of it.
 fn inverse_code<F: Field>(field: &F, a: u8) -> u8
     ensures { result ≡ inverse_code (F.meaning field.now) a }
 {
@@ -35,7 +36,7 @@ fn pivot_place(row: &[u8], k: usize) -> Option<usize>
 }
 
 // A row's number k is below the number of rows: that relates two values, and a type that held both would name both in each clause.
-// The field is passed beside: a value that holds a reference and a ghost field could not be handed on by value.
+// The field is passed beside: tried inside the value, a method that takes it and answers the next one did not prove.
 impl Elimination {
     // All rows after a change.
     fn changed<F: Field>(self, field: &F, shear: &Shear) -> Elimination

@@ -15,6 +15,7 @@ pub(crate) struct Shear {
     pub(crate) step: Block,
 }
 
+// That the place is in a row, and the step as long as one, relates the change to the rows that it is made of.
 impl Shear {
     // One row after the change.
     fn row<F: Field>(&self, field: &F, row: Block) -> Block

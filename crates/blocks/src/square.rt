@@ -58,7 +58,7 @@ impl Square {
         // No heap: rooms, of which the first count.
         let mut rooms = [Block::zeros(size); WIDEST];
         let rows = &mut rooms[..size];
-        // Chunks of 0 are refused; where there are no rows there are no bytes either.
+        // By index, as in `units`. Chunks of 0 are refused; where there are no rows there are no bytes either.
         for (i, row) in bytes.chunks_exact(size.max(1)).enumerate() {
             rows[i] = Block::from_bytes(row);
         }
@@ -91,7 +91,7 @@ impl Square {
         // No heap: rooms, of which the first count.
         let mut rooms = [Block::zeros(size); WIDEST];
         let rows = &mut rooms[..size];
-        // By index: it is also where the one stands, and an `enumerate` over `iter_mut` tells a proof nothing.
+        // By index: it is also where the one stands, and with an `enumerate` over `iter_mut`, tried, the proof did not close.
         for i in 0..size {
             rows[i] = Block::zeros(size).with(i, field.one());
         }

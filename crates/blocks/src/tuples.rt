@@ -12,7 +12,7 @@ pub fn add_multiple<F: Field>(field: &F, factor: u8, block: &[u8], sum: &mut [u8
     ensures bytes { sum.new ≡ plus (on_bytes (F.meaning field.now)) (scale (on_bytes (F.meaning field.now)) factor block.now) sum.old }
     ensures codes { IsCode (F.meaning field.now) factor → Codes (F.meaning field.now) block.now → sum.new ≡ plus (operations (F.meaning field.now)) (scale (operations (F.meaning field.now)) factor block.now) sum.old }
 {
-    // By index: of what a zip over `iter_mut` writes the check knows nothing.
+    // By index: with a zip over `iter_mut`, tried, the proof did not close.
     for i in 0..sum.len() {
         sum[i] ^= field.product(factor, block[i]);
     }

@@ -26,6 +26,7 @@ fn round(i: u8, j: u8, places: u8) -> usize
     requires second { j < places }
     ensures { result ≡ (i + j) % places }
 {
+    // To a wider number by `as`: with `From`, tried, proofs broke for no plainer text.
     let sum = i as usize + j as usize;
     if sum < places as usize {
         sum

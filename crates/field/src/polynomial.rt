@@ -50,7 +50,7 @@ impl Polynomial {
         ensures { result ≡ number (times two (bits self.now.width self.now.coefficients) (bits digits a) (bits self.now.width b)) }
     {
         let mut r = 0u32;
-        // The bits of a number are no collection.
+        // The bits of a number are no collection; a `fold` over their places is no plainer.
         for i in (0..digits).rev() {
             let doubled = r << 1;
             let reduced = doubled ^ select(doubled >> self.width, self.coefficients);

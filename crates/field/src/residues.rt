@@ -31,6 +31,7 @@ impl Residues {
     pub fn product(&self, a: u8, b: u8) -> u8
         ensures { let M = shift self.now.modulus.coefficients in result ≡ M.product (as_code M a) (as_code M b) }
     {
+        // To a wider number by `as`: with `From`, tried, proofs broke for no plainer text.
         let a = (a & self.mask) as u32;
         let b = (b & self.mask) as u32;
         self.modulus.multiply(a, self.modulus.width, b) as u8

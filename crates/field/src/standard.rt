@@ -14,5 +14,6 @@ pub fn standard_polynomial(width: u8) -> Option<u32>
     if width < 1 || width > 8 {
         return None;
     }
+    // To a wider number by `as`: with `From`, tried, proofs broke for no plainer text.
     Some(POLYNOMIALS[width as usize - 1])
 }

@@ -10,6 +10,7 @@ use crate::residues::Residues;
 pub fn powers_of(base: &Residues, generator: u32) -> [u8; 256]
     ensures { (k : ℕ) → k < 256 → slice_index result k ≡ entry base.now.modulus.coefficients generator k }
 {
+    // To a wider number by `as`: with `From`, tried, proofs broke for no plainer text.
     let g = (generator & base.mask as u32) as u8;
     let mut powers = [0u8; 256];
     let mut x = 1u8;
@@ -26,7 +27,7 @@ pub fn lowest_places(powers: &[u8; 256], places: u8) -> [Option<u8>; 256]
     ensures lowest { (a : ℕ) → 0 < a → a < 256 → slice_index_or result a None ≡ lowest powers.now places a }
 {
     let mut logs = [None; 256];
-    // By place: the place is what is written.
+    // By place: the place is what is written, as a byte, and an `enumerate` would count in another type.
     for k in (0..places).rev() {
         logs[powers[k as usize] as usize] = Some(k);
     }

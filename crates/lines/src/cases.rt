@@ -42,7 +42,7 @@ fn says_of_field(line: &str) -> Option<bool>
 fn says(line: &str) -> Option<bool>
     ensures { result ≡ Some true → LineHolds line.now }
 {
-    // Not by `?`, for which the borrow checker has no rule where a case and a borrowed text stand together.
+    // Not by `?`: tried, and the proof did not close, since the borrow checker has no rule for it where a case and a borrowed text stand together.
     let Some((case, name)) = read_line(line) else {
         return None;
     };

@@ -3,6 +3,7 @@ ghost use Rattle.std.specs.Prelude.{ℕ, List, MatchOption};
 ghost use Rattle.named.specs.Numbers.{Reads, Begins, TwoNumbers};
 
 // The number that the whole text is.
+// One call of `parse`, as `read_byte` of `lines` is for bytes: a generic one would be no plainer.
 pub fn number(text: &str) -> Option<u32>
     ensures { MatchOption result ((n : ℕ) → Reads text.now n → ⊥) (λ n. Reads text.now n) }
 {
