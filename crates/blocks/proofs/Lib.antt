@@ -1,4 +1,4 @@
-pub mod Rooms
+mod Rooms
 mod Moving
 mod Writing
 mod Coefficients

@@ -1,10 +1,7 @@
 -- Blocks and rows that are written over the start of an empty room.
 -- Assumes nothing.
-use Rattle.std.proofs.Common.{◌≡◌, ℕ, ◌+◌, ◌-◌, ◌<◌, ◌≤◌, Bool, true, ◌&&◌, eqb, List, [], ◌++◌, length, get_or, take, drop, set, replicate, Decides, sym, refl, ap, ◌∙◌, subst, ap₂, ⊎_elim, arith, length-set, get_or-set_other, get_or-set_same}
-use Rattle.std.proofs.lemmas.Bool.{and_parts, and_from, eq-eqb, eqb-true, cases_eq}
-use Rattle.std.proofs.lemmas.Cmp.{nat_list_eq_equiv}
-use Rattle.std.specs.Cmp.Lexicographic.{same_text}
-use lib.Pointwise.{pointwise}
+use Rattle.std.proofs.Common.{◌≡◌, ℕ, ◌+◌, ◌-◌, ◌<◌, ◌≤◌, List, [], ◌++◌, length, get_or, take, drop, set, replicate, sym, refl, ap, ◌∙◌, subst, ⊎_elim, arith, length-set, get_or-set_other, get_or-set_same}
+use Rattle.std.proofs.lemmas.Bool.{cases_eq}
 use Rattle.std.proofs.lemmas.List.{take_at, take-replicate, drop-replicate, length-replicate, replicate-append-replicate, get_or-replicate}
 use Rattle.blocks.specs.Rooms.{in_room, Fills, in_rooms, FillsSquare, Even}
 
@@ -31,20 +28,6 @@ square rows n size few even =
 -- how long the part of a room is that a call is lent
 pub part : {A : Type 0} (e : A) (n : ℕ) → n ≤ 32 → length (take n (replicate 32 e)) ≡ n
 part e n few = ap length (take-replicate n 32 e few) ∙ length-replicate n e
-
--- whether two blocks are the same, by their sizes and rooms
-pub same_blocks : (a b : List ℕ) (r : Bool) → r ≡ (eqb (length a) (length b) && pointwise eqb (in_room a) (in_room b)) → Decides r (a ≡ b)
-same_blocks a b r is = (yes, λ e. is ∙ subst (λ (x : List ℕ). (eqb (length a) (length x) && pointwise eqb (in_room a) (in_room x)) ≡ true) e same)
-  where
-    yes : r ≡ true → a ≡ b
-    yes h =
-        let parts = and_parts (eqb (length a) (length b)) (pointwise eqb (in_room a) (in_room b)) (sym is ∙ h) in
-        sym (take_at a (replicate (32 - length a) 0) (length a) refl)
-        ∙ ap₂ take (eqb-true (length a) (length b) parts.0) (same_text (in_room a) (in_room b) (sym parts.1))
-        ∙ take_at b (replicate (32 - length b) 0) (length b) refl
-
-    same : (eqb (length a) (length a) && pointwise eqb (in_room a) (in_room a)) ≡ true
-    same = and_from (eqb (length a) (length a)) (pointwise eqb (in_room a) (in_room a)) (eq-eqb (length a) (length a) refl) (nat_list_eq_equiv.refl (in_room a))
 
 -- rows of one length stay so where one of them is written
 pub long_set : (rows : List (List ℕ)) (i n : ℕ) (v : List ℕ) → ((k : ℕ) → k < length rows → length (get_or rows k []) ≡ n) → length v ≡ n

@@ -2,3 +2,4 @@ pub mod Rooms
 pub mod Moduli
 pub mod Elimination
 pub mod Maps
+pub mod RoomsLemmas

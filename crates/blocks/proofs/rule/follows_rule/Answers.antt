@@ -4,7 +4,7 @@ use Rattle.algebra.specs.Meaning.{on_bytes}
 use Rattle.algebra.specs.Modular.{variable}
 use Rattle.blocks.specs.Moduli.{arithmetic_of}
 use Rattle.blocks.proofs.Moduli.{verdict}
-use Rattle.blocks.proofs.Rooms.{same_blocks}
+use Rattle.blocks.specs.RoomsLemmas.{same_blocks}
 use Rattle.blocks.proofs.rule.follows_rule.Goals as goal
 
 pub returns : goal.returns

@@ -1,5 +1,5 @@
 use Rattle.lines.proofs.Answers.{step_decided}
-use Rattle.blocks.proofs.Rooms.{same_blocks}
+use Rattle.blocks.specs.RoomsLemmas.{same_blocks}
 use Rattle.lines.proofs.block_cases.block_case_holds.Goals as goal
 
 pub returns-clause-value : goal.returns-clause-value
