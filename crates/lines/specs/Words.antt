@@ -1,10 +1,13 @@
 -- Words of a line, each up to a space.
-use Rattle.std.specs.Prelude.{◌≡◌, ℕ, List, ◌∷◌, ◌++◌}
+use Rattle.std.specs.Prelude.{◌≡◌, ℕ, ◌<◌, ◌==◌, List, length}
+use Rattle.std.specs.List.{position_or_len, before_first, after_first}
 use Rattle.lines.specs.BlockText.{ReadsByte, ReadsBlock}
 
--- a word, a space and the rest
-abbrev pub WordThen : List ℕ → List ℕ → List ℕ → Type 0
-WordThen text word rest = text ≡ word ++ (32 ∷ rest)
+-- what stands before the first space and behind it, where there is a space
+pub record WordThen (text word rest : List ℕ) : Type 0 where
+  pub some : position_or_len (λ b. b == 32) text < length text
+  pub before : word ≡ before_first (λ b. b == 32) text
+  pub behind : rest ≡ after_first (λ b. b == 32) text
 
 -- a byte, a space and the rest
 abbrev pub ByteThen : List ℕ → ℕ → List ℕ → Type 0

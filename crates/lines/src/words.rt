@@ -1,5 +1,6 @@
 //! The words of a line, from the left.
-ghost use Rattle.std.specs.Prelude.{IfSome};
+ghost use Rattle.std.specs.Prelude.{◌≡◌, ◌==◌, length, IfSome, MatchOption};
+ghost use Rattle.std.specs.List.{position_or_len};
 ghost use Rattle.lines.specs.Words.{WordThen, ByteThen, BytesThen};
 
 use crate::block_text::{read_block, read_byte, read_bytes};
@@ -15,7 +16,7 @@ pub struct Words<'a> {
 impl<'a> Words<'a> {
     /// The text before the first space; none where there is no space.
     pub fn word(&mut self) -> Option<&'a str>
-        ensures { IfSome result (λ w. WordThen self.old.rest.now w.now self.new.rest.now) }
+        ensures { MatchOption result (position_or_len (λ b. b == 32) self.old.rest.now ≡ length self.old.rest.now) (λ w. WordThen self.old.rest.now w.now self.new.rest.now) }
     {
         let (first, rest) = self.rest.split_once(' ')?;
         self.rest = rest;
