@@ -1,8 +1,8 @@
 -- Blocks and rows that are written over the start of an empty room.
 -- Assumes nothing.
-use Rattle.std.proofs.Common.{◌≡◌, ℕ, ◌+◌, ◌-◌, ◌<◌, ◌≤◌, List, [], ◌++◌, length, get_or, take, drop, set, replicate, sym, refl, ap, ◌∙◌, subst, ⊎_elim, arith, length-set, get_or-set_other, get_or-set_same}
+use Rattle.std.proofs.Common.{◌≡◌, ℕ, ◌+◌, ◌-◌, ◌<◌, ◌≤◌, List, [], ◌++◌, length, get_or, take, drop, set, replicate, sym, ap, ◌∙◌, subst, ⊎_elim, arith, length-set, get_or-set_other, get_or-set_same}
 use Rattle.std.proofs.lemmas.Bool.{cases_eq}
-use Rattle.std.proofs.lemmas.List.{take_at, take-replicate, drop-replicate, length-replicate, replicate-append-replicate, get_or-replicate}
+use Rattle.std.proofs.lemmas.List.{take_at, take-replicate, drop-replicate, length-replicate, replicate-append-replicate}
 use Rattle.blocks.specs.Rooms.{in_room, Fills, in_rooms, FillsSquare, Even}
 
 -- what lies at the start of a room whose rest is as it was
@@ -36,9 +36,3 @@ long_set rows i n v each is k h =
     let inside : k < length rows = subst (λ m. k < m) (length-set rows i v) h in
     ⊎_elim (λ (e : k ≡ i). ap (λ z. length (get_or (set rows i v) z [])) e ∙ ap length (get_or-set_same rows i v [] (subst (λ z. z < length rows) e inside)) ∙ is)
     (λ other. ap length (get_or-set_other rows i k v [] other) ∙ each k inside) (cases_eq k i)
-
--- the part of a room that holds one row again and again
-pub long_part : (row : List ℕ) (n m : ℕ) → n ≤ 32 → length row ≡ m → (k : ℕ) → k < length (take n (replicate 32 row)) → length (get_or (take n (replicate 32 row)) k []) ≡ m
-long_part row n m few is k h =
-    ap (λ (l : List (List ℕ)). length (get_or l k [])) (take-replicate n 32 row few)
-    ∙ ap length (get_or-replicate n k row [] (subst (λ z. k < z) (part row n few) h)) ∙ is

@@ -93,11 +93,13 @@ impl Block {
         ensures value { result ≡ plus (on_bytes (F.meaning field.now)) (scale (on_bytes (F.meaning field.now)) factor other) self }
         ensures size { length result ≡ length self }
     {
-        // No heap: a room beside. A block's own is lent to no call, so that what lies behind the block stays zeros.
-        let mut room = [0u8; WIDEST];
+        // A room beside: a call is lent no part of a block's own, so that what lies behind the block stays zeros.
+        let mut room = self.room;
         let sum = &mut room[..self.size];
-        sum.copy_from_slice(self.as_slice());
         add_multiple(field, factor, other.as_slice(), sum);
-        Block::from_bytes(sum)
+        Block {
+            size: self.size,
+            room,
+        }
     }
 }

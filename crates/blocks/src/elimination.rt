@@ -37,70 +37,71 @@ fn pivot_place(row: &[u8], k: usize) -> Option<usize>
 
 // A row's number k is below the number of rows: that relates two values, and a type that held both would name both in each clause.
 // The field is passed beside: tried inside the value, a method that takes it and answers the next one did not prove.
+// Rows are changed where they lie: answered as values, each row of elimination copied all of them some eighteen times.
 impl Elimination {
-    // All rows after a change.
-    fn changed<F: Field>(self, field: &F, shear: &Shear) -> Elimination
-        requires place { shear.now.place < length self.work }
-        requires size { length shear.now.step ≡ length self.work }
-        ensures work { result.work ≡ map (shear_row (on_bytes (F.meaning field.now)) shear.now.factor shear.now.place shear.now.step) self.work }
-        ensures account { result.account ≡ map (shear_row (on_bytes (F.meaning field.now)) shear.now.factor shear.now.place shear.now.step) self.account }
+    // Changes all rows.
+    fn change<F: Field>(&mut self, field: &F, shear: &Shear)
+        requires place { shear.now.place < length self.old.work }
+        requires size { length shear.now.step ≡ length self.old.work }
+        ensures work { self.new.work ≡ map (shear_row (on_bytes (F.meaning field.now)) shear.now.factor shear.now.place shear.now.step) self.old.work }
+        ensures account { self.new.account ≡ map (shear_row (on_bytes (F.meaning field.now)) shear.now.factor shear.now.place shear.now.step) self.old.account }
     {
-        Elimination {
-            work: shear.rows(field, &self.work),
-            account: shear.rows(field, &self.account),
-        }
+        shear.change(field, &mut self.work);
+        shear.change(field, &mut self.account);
     }
 
     // Brings a pivot to place k: adds the element at the pivot's place there, in every row.
-    fn led<F: Field>(self, field: &F, place: usize, k: usize) -> Elimination
-        requires place { place < length self.work }
-        requires row { k < length self.work }
-        ensures work { result.work ≡ map (lead_step (F.meaning field.now) (length self.work) place k) self.work }
-        ensures account { result.account ≡ map (lead_step (F.meaning field.now) (length self.work) place k) self.account }
+    fn lead<F: Field>(&mut self, field: &F, place: usize, k: usize)
+        requires place { place < length self.old.work }
+        requires row { k < length self.old.work }
+        ensures work { self.new.work ≡ map (lead_step (F.meaning field.now) (length self.old.work) place k) self.old.work }
+        ensures account { self.new.account ≡ map (lead_step (F.meaning field.now) (length self.old.work) place k) self.old.account }
     {
         if place == k {
-            return self;
+            return;
         }
         let one = field.one();
         let step = Block::zeros(self.work.size()).with(k, one);
-        self.changed(
+        self.change(
             field,
             &Shear {
                 factor: one,
                 place,
                 step,
             },
-        )
+        );
     }
 
     // Makes row k a unit by its pivot at place k, and changes every row so.
-    fn cleared<F: Field>(self, field: &F, k: usize) -> Elimination
-        requires { k < length self.work }
-        ensures work { result.work ≡ map (pivot_step (F.meaning field.now) k (slice_index_or self.work k [])) self.work }
-        ensures account { result.account ≡ map (pivot_step (F.meaning field.now) k (slice_index_or self.work k [])) self.account }
+    fn clear<F: Field>(&mut self, field: &F, k: usize)
+        requires { k < length self.old.work }
+        ensures work { self.new.work ≡ map (pivot_step (F.meaning field.now) k (slice_index_or self.old.work k [])) self.old.work }
+        ensures account { self.new.account ≡ map (pivot_step (F.meaning field.now) k (slice_index_or self.old.work k [])) self.old.account }
     {
         let pivot = self.work.as_slice()[k];
         let code = pivot.as_slice()[k];
         let factor = inverse_code(field, code);
         let step = pivot.with(k, code ^ field.one());
-        self.changed(
+        self.change(
             field,
             &Shear {
                 factor,
                 place: k,
                 step,
             },
-        )
+        );
     }
 
     // One row of elimination, if row k has a pivot.
-    fn reduced<F: Field>(self, field: &F, k: usize) -> Option<Elimination>
-        requires { k < length self.work }
-        ensures { MatchOption result (NoPivot k (slice_index_or self.work k [])) (λ next. RowReduced (F.meaning field.now) k self.work self.account next.work next.account) }
+    fn reduce<F: Field>(&mut self, field: &F, k: usize) -> Option<()>
+        requires { k < length self.old.work }
+        ensures { MatchOption result (NoPivot k (slice_index_or self.old.work k [])) (λ _. RowReduced (F.meaning field.now) k self.old.work self.old.account self.new.work self.new.account) }
     {
         let row = self.work.as_slice()[k];
         let place = pivot_place(row.as_slice(), k)?;
-        Some(self.led(field, place, k).cleared(field, k))
+        self.lead(field, place, k);
+        self.clear(field, k);
+        Some(())
     }
 
     // What the account is when all rows are units, if they can be made so.
@@ -111,7 +112,7 @@ impl Elimination {
         let mut state = self;
         // Each row is reduced in what the rows before made of all of them, so no iterator over rows fits; a `try_fold` over places is no plainer.
         for k in 0..state.work.size() {
-            state = state.reduced(field, k)?;
+            state.reduce(field, k)?;
         }
         Some(state.account)
     }

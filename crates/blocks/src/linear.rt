@@ -5,6 +5,7 @@ ghost use Rattle.algebra.specs.Meaning.{on_bytes};
 
 use crate::block::Block;
 use crate::square::Square;
+use crate::tuples::add_multiple;
 use field::Field;
 
 /// The constants plus, for each factor, that factor times the row at its place.
@@ -18,9 +19,14 @@ pub(crate) fn combined<F: Field>(
     ensures value { result ≡ combination (on_bytes (F.meaning field.now)) constants rows.now factors }
     ensures size { length result ≡ length constants }
 {
-    let mut sum = constants;
+    // A room beside: a call is lent no part of a block's own, so that what lies behind the block stays zeros.
+    let mut room = constants.room;
+    let sum = &mut room[..constants.size];
     for (row, factor) in rows.as_slice().iter().zip(factors.as_slice()) {
-        sum = sum.plus_multiple(field, *factor, *row);
+        add_multiple(field, *factor, row.as_slice(), sum);
     }
-    sum
+    Block {
+        size: constants.size,
+        room,
+    }
 }

@@ -15,9 +15,10 @@ impl<'f, 'm, F: Field> Modular<'f, 'm, F> {
         ensures field { result.field.now ≡ self.now.field.now }
         ensures low { result.low ≡ self.now.modulus.now.low }
     {
+        let modulus = self.modulus;
         Quotient {
             field: self.field,
-            low: self.modulus.low,
+            low: modulus.low,
         }
     }
 }
@@ -32,7 +33,8 @@ impl<'f, 'm, F: Field> BlockArithmetic for Modular<'f, 'm, F> {
     }
 
     fn size(&self) -> usize {
-        self.modulus.low.size()
+        let modulus = self.modulus;
+        modulus.low.size()
     }
 
     fn multiply(&self, a: Block, b: Block) -> Block {
@@ -45,11 +47,8 @@ impl<'f, 'm, F: Field> BlockArithmetic for Modular<'f, 'm, F> {
     }
 
     fn raise_to_q(&self, block: Block) -> Block {
-        combined(
-            self.field,
-            Block::zeros(self.modulus.low.size()),
-            &self.modulus.rows,
-            block,
-        )
+        let modulus = self.modulus;
+        let zeros = Block::zeros(modulus.low.size());
+        combined(self.field, zeros, &modulus.rows, block)
     }
 }

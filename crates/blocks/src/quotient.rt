@@ -28,8 +28,9 @@ impl<F: Field> Quotient<'_, F> {
         ensures size { length result ≡ length self.now.low }
     {
         // No heap: a room, of which the start counts, for a call that writes to a slice.
+        let size = b.size();
         let mut room = [0u8; WIDEST];
-        let product = &mut room[..b.size()];
+        let product = &mut room[..size];
         multiply(
             self.field,
             self.low.as_slice(),
@@ -37,7 +38,7 @@ impl<F: Field> Quotient<'_, F> {
             b.as_slice(),
             product,
         );
-        Block::from_bytes(product)
+        Block { size, room }
     }
 
     /// The one.
@@ -78,13 +79,14 @@ impl<F: Field> Quotient<'_, F> {
     {
         let factor = self.x_to_q();
         let mut power = self.one();
-        // No heap: rooms, of which the first count.
-        let mut rooms = [power; WIDEST];
-        let rows = &mut rooms[..self.low.size()];
+        let size = self.low.size();
+        // No heap: rooms, of which the first count; those behind stay empty.
+        let mut rooms = [Block::zeros(0); WIDEST];
+        let rows = &mut rooms[..size];
         for row in rows.iter_mut() {
             *row = power;
             power = self.product(factor, power);
         }
-        Square::from_rows(rows)
+        Square { size, rooms }
     }
 }

@@ -28,13 +28,13 @@ impl Shear {
         row.plus_multiple(field, multiple, self.step)
     }
 
-    /// All rows, each after the change.
-    pub(crate) fn rows<F: Field>(&self, field: &F, rows: &Square) -> Square
-        requires place { self.now.place < length rows.now }
-        requires size { length self.now.step ≡ length rows.now }
-        ensures value { result ≡ map (shear_row (on_bytes (F.meaning field.now)) self.now.factor self.now.place self.now.step) rows.now }
-        ensures size { length result ≡ length rows.now }
+    /// Changes all rows.
+    pub(crate) fn change<F: Field>(&self, field: &F, rows: &mut Square)
+        requires place { self.now.place < length rows.old }
+        requires size { length self.now.step ≡ length rows.old }
+        ensures value { rows.new ≡ map (shear_row (on_bytes (F.meaning field.now)) self.now.factor self.now.place self.now.step) rows.old }
+        ensures size { length rows.new ≡ length rows.old }
     {
-        rows.changed(|row| self.row(field, row))
+        rows.change(|row| self.row(field, row));
     }
 }

@@ -33,21 +33,6 @@ impl Model for Square {
 }
 
 impl Square {
-    /// These rows.
-    pub(crate) fn from_rows(rows: &[Block]) -> Square
-        requires few { length rows.now ≤ 32 }
-        requires even { Even rows.now }
-        ensures { result ≡ rows.now }
-    {
-        // No heap: rooms, of which the first count.
-        let mut rooms = [Block::zeros(0); WIDEST];
-        rooms[..rows.len()].copy_from_slice(rows);
-        Square {
-            size: rows.len(),
-            rooms,
-        }
-    }
-
     /// The rows of so many bytes that follow each other.
     pub(crate) fn from_bytes(size: usize, bytes: &[u8]) -> Square
         requires few { size ≤ 32 }
@@ -55,14 +40,14 @@ impl Square {
         ensures value { result ≡ parts size size bytes.now }
         ensures size { length result ≡ size }
     {
-        // No heap: rooms, of which the first count.
-        let mut rooms = [Block::zeros(size); WIDEST];
+        // No heap: rooms, of which the first count; those behind stay empty.
+        let mut rooms = [Block::zeros(0); WIDEST];
         let rows = &mut rooms[..size];
         // By index, as in `units`. Chunks of 0 are refused; where there are no rows there are no bytes either.
         for (i, row) in bytes.chunks_exact(size.max(1)).enumerate() {
             rows[i] = Block::from_bytes(row);
         }
-        Square::from_rows(rows)
+        Square { size, rooms }
     }
 
     /// Its rows.
@@ -88,29 +73,26 @@ impl Square {
         requires { size ≤ 32 }
         ensures { result ≡ basis_from (on_bytes (F.meaning field.now)) size 0 size }
     {
-        // No heap: rooms, of which the first count.
-        let mut rooms = [Block::zeros(size); WIDEST];
+        // No heap: rooms, of which the first count; those behind stay empty.
+        let mut rooms = [Block::zeros(0); WIDEST];
         let rows = &mut rooms[..size];
         // By index: it is also where the one stands, and with an `enumerate` over `iter_mut`, tried, the proof did not close.
         for i in 0..size {
             rows[i] = Block::zeros(size).with(i, field.one());
         }
-        Square::from_rows(rows)
+        Square { size, rooms }
     }
 
-    /// Each row changed, and as long as before.
-    pub(crate) fn changed<C: Fn(Block) -> Block>(&self, change: C) -> Square
-        requires callable { (row : List ℕ) → length row ≡ length self.now → C.pre change row }
-        requires stays { (row r : List ℕ) → length row ≡ length self.now → C.post change row r → length r ≡ length self.now }
-        ensures value { (f : List ℕ → List ℕ) → ((row r : List ℕ) → C.post change row r → r ≡ f row) → result ≡ map f self.now }
-        ensures size { length result ≡ length self.now }
+    /// Changes each row, which stays as long as before.
+    pub(crate) fn change<C: Fn(Block) -> Block>(&mut self, change: C)
+        requires callable { (row : List ℕ) → length row ≡ length self.old → C.pre change row }
+        requires stays { (row r : List ℕ) → length row ≡ length self.old → C.post change row r → length r ≡ length self.old }
+        ensures value { (f : List ℕ → List ℕ) → ((row r : List ℕ) → C.post change row r → r ≡ f row) → self.new ≡ map f self.old }
+        ensures size { length self.new ≡ length self.old }
     {
-        // No heap: rooms, of which the first count.
-        let mut rooms = self.rooms;
-        let rows = &mut rooms[..self.size];
+        let rows = &mut self.rooms[..self.size];
         for row in rows.iter_mut() {
             *row = change(*row);
         }
-        Square::from_rows(rows)
     }
 }

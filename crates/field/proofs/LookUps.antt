@@ -106,11 +106,11 @@ module _ (s : Residues) (g : ℕ) where
   -- ---- the table that the code fills
 
   -- the lowest place among the entries is the logarithm
-  module _ (entries : List ℕ) (right : (i : ℕ) → i < 256 → get_or entries i 0 ≡ entry p g i) where
+  module _ (entries : List ℕ) (right : (i : ℕ) → i < s.mask → get_or entries i 0 ≡ entry p g i) where
     same_place : (a : ℕ) → first_from 0 s.mask (λ i. eqb (get_or entries i 0) a) ≡ logarithm p g a
     unfolding logarithm
     same_place a =
-        first_same (λ i. eqb (get_or entries i 0) a) (λ i. eqb (entry p g i) a) s.mask 0 (λ i lo hi. ap (λ z. eqb z a) (right i (omega (arith, mask_byte))))
+        first_same (λ i. eqb (get_or entries i 0) a) (λ i. eqb (entry p g i) a) s.mask 0 (λ i lo hi. ap (λ z. eqb z a) (right i (omega arith)))
         ∙ ap (λ n. first_from 0 n (λ i. eqb (entry p g i) a)) places_is
 
     pub kept_lowest : (a : ℕ) → 0 < a → lowest entries s.mask a ≡ kept_log p g a

@@ -16,7 +16,7 @@ pub struct Logarithms {
     powers: [u8; 256],
     logs: [Option<u8>; 256],
     ghost judged: { sound ≡ (power_table base.modulus.coefficients generator).sound },
-    ghost entries: { (k : ℕ) → k < 256 → slice_index powers k ≡ entry base.modulus.coefficients generator k },
+    ghost entries: { (k : ℕ) → k < base.mask → slice_index powers k ≡ entry base.modulus.coefficients generator k },
     ghost logarithms: { (a : ℕ) → a ≤ base.mask → slice_index_or logs a None ≡ kept_log base.modulus.coefficients generator a },
 }
 
@@ -64,8 +64,9 @@ impl Logarithms {
     pub fn product(&self, a: u8, b: u8) -> u8
         ensures { let M = power_table self.now.base.modulus.coefficients self.now.generator in result ≡ M.product (as_code M a) (as_code M b) }
     {
-        let Some(i) = self.logarithm(a) else { return 0 };
-        let Some(j) = self.logarithm(b) else { return 0 };
+        let (i, j) = (self.logarithm(a), self.logarithm(b));
+        let Some(i) = i else { return 0 };
+        let Some(j) = j else { return 0 };
         self.powers[round(i, j, self.base.mask)]
     }
 }

@@ -22,7 +22,7 @@ impl Field for Shift {
     }
 
     fn product(&self, a: u8, b: u8) -> u8 {
-        self.residues.map_or(0, |r| r.product(a, b))
+        self.residues.as_ref().map_or(0, |r| r.product(a, b))
     }
 
     fn sound(&self) -> bool {

@@ -6,15 +6,16 @@ ghost use Rattle.field.specs.Tables.{lowest};
 
 use crate::residues::Residues;
 
-/// The powers of `generator`, of which the low bits count.
+/// As many powers of `generator`, of which the low bits count, as there are codes but 0.
 pub fn powers_of(base: &Residues, generator: u32) -> [u8; 256]
-    ensures { (k : ℕ) → k < 256 → slice_index result k ≡ entry base.now.modulus.coefficients generator k }
+    ensures { (k : ℕ) → k < base.now.mask → slice_index result k ≡ entry base.now.modulus.coefficients generator k }
 {
     // To a wider number by `as`: with `From`, tried, proofs broke for no plainer text.
     let g = (generator & base.mask as u32) as u8;
     let mut powers = [0u8; 256];
     let mut x = 1u8;
-    for power in powers.iter_mut() {
+    let places = &mut powers[..base.mask as usize];
+    for power in places.iter_mut() {
         *power = x;
         x = base.product(g, x);
     }

@@ -11,7 +11,7 @@ use Rattle.lines.specs.declared.case.FieldCase.TheVariants.{Product, Width, One,
 use Rattle.lines.specs.declared.case.MapCase.{MapCase}
 use Rattle.lines.specs.declared.case.Step.{Step}
 use Rattle.lines.specs.declared.case.Step.TheVariants.{Multiply, Square, Frobenius, Forward, Back}
-use Rattle.lines.specs.Words.{WordThen, ByteThen, BytesThen}
+use Rattle.lines.specs.Words.{WordThen, ByteThen, BytesThen, BlockThen}
 
 -- of a field alone: `product` and three bytes, `width` or `one` and a byte, `sound`, or `unsound`
 abbrev pub FieldCaseThen : List ℕ → List ℕ → FieldCase → List ℕ → Type 0
@@ -24,17 +24,17 @@ FieldCaseThen kind text (Sound false) rest = (kind ≡ codes "unsound") × (text
 
 -- a step: `multiply`, a modulus and a factor, `square` or `frobenius` and a modulus, `forward`, t and a modulus, or `back`, l, t and a modulus
 abbrev pub StepThen : List ℕ → List ℕ → Step → List ℕ → List ℕ → Type 0
-StepThen kind text (Multiply factor) modulus rest = (kind ≡ codes "multiply") × (s : List ℕ) × BytesThen text modulus s × BytesThen s factor rest
-StepThen kind text Square modulus rest = (kind ≡ codes "square") × BytesThen text modulus rest
-StepThen kind text Frobenius modulus rest = (kind ≡ codes "frobenius") × BytesThen text modulus rest
-StepThen kind text (Forward t) modulus rest = (kind ≡ codes "forward") × (s : List ℕ) × ByteThen text t s × BytesThen s modulus rest
+StepThen kind text (Multiply factor) modulus rest = (kind ≡ codes "multiply") × (s : List ℕ) × BlockThen text modulus s × BlockThen s factor rest
+StepThen kind text Square modulus rest = (kind ≡ codes "square") × BlockThen text modulus rest
+StepThen kind text Frobenius modulus rest = (kind ≡ codes "frobenius") × BlockThen text modulus rest
+StepThen kind text (Forward t) modulus rest = (kind ≡ codes "forward") × (s : List ℕ) × ByteThen text t s × BlockThen s modulus rest
 StepThen kind text (Back l t) modulus rest =
-    (kind ≡ codes "back") × (s : List ℕ) × (u : List ℕ) × ByteThen text l s × ByteThen s t u × BytesThen u modulus rest
+    (kind ≡ codes "back") × (s : List ℕ) × (u : List ℕ) × ByteThen text l s × ByteThen s t u × BlockThen u modulus rest
 
 -- a step, a block and the block after it
 abbrev pub BlockCaseThen : List ℕ → List ℕ → BlockCase → List ℕ → Type 0
 BlockCaseThen kind text case rest =
-    (s : List ℕ) × (t : List ℕ) × StepThen kind text case.step case.modulus s × BytesThen s case.block t × BytesThen t case.result rest
+    (s : List ℕ) × (t : List ℕ) × StepThen kind text case.step case.modulus s × BlockThen s case.block t × BlockThen t case.result rest
 
 -- the map on blocks of a size that has these bytes: its constants, and then its rows
 pub record MapOf (bytes : List ℕ) (size : ℕ) (map : AffineMap) : Type 0 where
@@ -45,7 +45,7 @@ pub record MapOf (bytes : List ℕ) (size : ℕ) (map : AffineMap) : Type 0 wher
 -- the bytes of a map, a block and its image
 abbrev pub MapCaseThen : List ℕ → MapCase → List ℕ → Type 0
 MapCaseThen text case rest =
-    (bytes : List ℕ) × (s : List ℕ) × (t : List ℕ) × BytesThen text bytes s × BytesThen s case.block t × BytesThen t case.image rest
+    (bytes : List ℕ) × (s : List ℕ) × (t : List ℕ) × BytesThen text bytes s × BlockThen s case.block t × BlockThen t case.image rest
     × MapOf bytes (length case.block) case.map
 
 -- the bytes of a map, and the size of its blocks
@@ -55,8 +55,8 @@ MapThen text map rest = (bytes : List ℕ) × (size : ℕ) × (s : List ℕ) × 
 -- of a field alone, or `rule` or `no-rule` and a modulus, or a step on blocks, or `apply`, `solve` or `singular` and a map
 abbrev pub CaseThen : List ℕ → List ℕ → Case → List ℕ → Type 0
 CaseThen kind text (Field case) rest = FieldCaseThen kind text case rest
-CaseThen kind text (Rule modulus true) rest = (kind ≡ codes "rule") × BytesThen text modulus rest
-CaseThen kind text (Rule modulus false) rest = (kind ≡ codes "no-rule") × BytesThen text modulus rest
+CaseThen kind text (Rule modulus true) rest = (kind ≡ codes "rule") × BlockThen text modulus rest
+CaseThen kind text (Rule modulus false) rest = (kind ≡ codes "no-rule") × BlockThen text modulus rest
 CaseThen kind text (Blocks case) rest = BlockCaseThen kind text case rest
 CaseThen kind text (Apply case) rest = (kind ≡ codes "apply") × MapCaseThen text case rest
 CaseThen kind text (Solve case) rest = (kind ≡ codes "solve") × MapCaseThen text case rest

@@ -1,5 +1,5 @@
 -- Words of a line, each up to a space.
-use Rattle.std.specs.Prelude.{◌≡◌, ℕ, ◌<◌, ◌==◌, List, length}
+use Rattle.std.specs.Prelude.{◌≡◌, ℕ, ◌<◌, ◌≤◌, ◌==◌, List, length}
 use Rattle.std.specs.List.{position_or_len, before_first, after_first}
 use Rattle.lines.specs.BlockText.{ReadsByte, ReadsBlock}
 
@@ -16,3 +16,7 @@ ByteThen text n rest = (word : List ℕ) × WordThen text word rest × ReadsByte
 -- bytes parted by commas, a space and the rest
 abbrev pub BytesThen : List ℕ → List ℕ → List ℕ → Type 0
 BytesThen text bytes rest = (word : List ℕ) × WordThen text word rest × ReadsBlock word bytes
+
+-- at least one byte of that kind
+abbrev pub BlockThen : List ℕ → List ℕ → List ℕ → Type 0
+BlockThen text block rest = BytesThen text block rest × (1 ≤ length block)

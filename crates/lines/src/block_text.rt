@@ -25,11 +25,15 @@ pub fn read_bytes<const N: usize>(text: &str) -> Option<ArrayVec<u8, N>>
     Some(bytes)
 }
 
-/// The block that the text is: at most 32 bytes, parted by commas.
+/// The block that the text is: 1 to 32 bytes, parted by commas.
 // No `FromStr`: trait and type are both of other crates.
 pub fn read_block(text: &str) -> Option<Block>
-    ensures { IfSome result (λ b. ReadsBlock text.now b) }
+    ensures bytes { IfSome result (λ b. ReadsBlock text.now b) }
+    ensures some { IfSome result (λ b. 1 ≤ length b) }
 {
     let bytes = read_bytes::<WIDEST>(text)?;
+    if bytes.is_empty() {
+        return None;
+    }
     Some(Block::from_bytes(bytes.as_slice()))
 }

@@ -42,7 +42,8 @@ fn read_case(kind: &str, words: &mut Words) -> Option<Case>
     }
 }
 
-fn read_field_case(kind: &str, words: &mut Words) -> Option<FieldCase>
+/// A case of a field alone, of that kind.
+pub fn read_field_case(kind: &str, words: &mut Words) -> Option<FieldCase>
     ensures { IfSome result (λ case. FieldCaseThen kind.now words.old.rest.now case words.new.rest.now) }
 {
     match kind {

@@ -7,7 +7,7 @@ ghost use Rattle.lines.specs.Scaled.{scaled};
 
 use crate::block_cases::{block_case_holds, rule_kept};
 use crate::case::Case;
-use crate::case_text::read_line;
+use crate::case_text::{read_field_case, read_line};
 use crate::field_cases::field_case_holds;
 use crate::map_cases::{map_applies, map_is_singular, map_solves};
 use crate::scaled_value::Scaled;
@@ -33,10 +33,11 @@ pub fn line_holds(line: &str) -> bool
 fn says_of_field(line: &str) -> Option<bool>
     ensures { result ≡ Some true → FieldLineHolds line.now }
 {
-    let Some((Case::Field(case), name)) = read_line(line) else {
-        return None;
-    };
-    Some(field_case_holds(&field_of(name)?, &case))
+    // Cases of a field alone, which are small; a case of any kind has room for a map.
+    let mut words = Words { rest: line };
+    let kind = words.word()?;
+    let case = read_field_case(kind, &mut words)?;
+    Some(field_case_holds(&field_of(words.rest)?, &case))
 }
 
 fn says(line: &str) -> Option<bool>

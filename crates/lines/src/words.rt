@@ -1,7 +1,7 @@
 //! The words of a line, from the left.
 ghost use Rattle.std.specs.Prelude.{◌≡◌, ◌==◌, length, IfSome, MatchOption};
 ghost use Rattle.std.specs.List.{position_or_len};
-ghost use Rattle.lines.specs.Words.{WordThen, ByteThen, BytesThen};
+ghost use Rattle.lines.specs.Words.{WordThen, ByteThen, BytesThen, BlockThen};
 
 use crate::block_text::{read_block, read_byte, read_bytes};
 use arrayvec::ArrayVec;
@@ -32,7 +32,7 @@ impl<'a> Words<'a> {
 
     /// The next word as a block.
     pub fn block(&mut self) -> Option<Block>
-        ensures { IfSome result (λ b. BytesThen self.old.rest.now b self.new.rest.now) }
+        ensures { IfSome result (λ b. BlockThen self.old.rest.now b self.new.rest.now) }
     {
         read_block(self.word()?)
     }

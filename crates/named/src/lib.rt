@@ -12,4 +12,5 @@ mod storey_field;
 
 pub use ground::Ground;
 pub use misnamed::Misnamed;
+pub use name::field_named;
 pub use storey::Storey;

@@ -56,3 +56,10 @@ impl FromStr for Storey {
         named_within(text, TOWERS)
     }
 }
+
+/// The field that a text names, as `text.parse::<Storey>()` answers it.
+pub fn field_named(text: &str) -> Result<Storey, Misnamed>
+    ensures { MatchResult result (λ f. Names text.now (storey f)) (Misnames 3 text.now) }
+{
+    text.parse()
+}

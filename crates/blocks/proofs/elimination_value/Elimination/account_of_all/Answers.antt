@@ -23,14 +23,14 @@ loop-k-preserved g c =
     let less : c.loop-k.k < length rows = omega (arith, c.loop-k-test.true, c.size-k-end.ensures.value) in
     let W = c.loop-k.state.work in
     let C = c.loop-k.state.account in
-    let next = c.in_ok-state.state in (
-      as_many M c.loop-k.k W C next.work next.account c.in_ok-state.ensures ∙ inv.0,
+    let next = c.reduce.new.self in (
+      as_many M c.loop-k.k W C next.work next.account c.in_ok-reduce.ensures ∙ inv.0,
       λ laws square units.
-          one_more M (g.met.F.Field.shape x) laws (length rows) c.loop-k.k rows W C inv.0 less (inv.1 laws square units) next.work next.account c.in_ok-state.ensures,
+          one_more M (g.met.F.Field.shape x) laws (length rows) c.loop-k.k rows W C inv.0 less (inv.1 laws square units) next.work next.account c.in_ok-reduce.ensures,
     )
 
-pub returns-in_err-state-clause-verdict : goal.returns-in_err-state-clause-verdict
-returns-in_err-state-clause-verdict g c laws square units =
+pub returns-in_err-reduce-clause-verdict : goal.returns-in_err-reduce-clause-verdict
+returns-in_err-reduce-clause-verdict g c laws square units =
     let x = c.args.field.now in
     let M = g.F.Field.meaning x in
     let rows = c.args.self.work in
@@ -40,7 +40,7 @@ returns-in_err-state-clause-verdict g c laws square units =
     (record {
       square = λ e. absurd (false≢true e);
       inverts = λ e. absurd (false≢true e);
-      fails = λ e. row_stuck M (g.met.F.Field.shape x) laws (length rows) c.loop-k.k rows c.loop-k.state.work c.loop-k.state.account inv.0 less (inv.1 laws square units) c.in_err-state.ensures;
+      fails = λ e. row_stuck M (g.met.F.Field.shape x) laws (length rows) c.loop-k.k rows c.loop-k.state.work c.loop-k.state.account inv.0 less (inv.1 laws square units) c.in_err-reduce.ensures;
     })
 
 pub returns-clause-verdict : goal.returns-clause-verdict

@@ -1,8 +1,16 @@
-use Rattle.std.proofs.Common.{◌≡◌, length, ap, ◌∙◌, ap₂}
+use Rattle.std.proofs.Common.{length, drop, replicate, ap, ◌∙◌, ap₂}
+use Rattle.std.proofs.lemmas.List.{take_at}
 use Rattle.algebra.specs.Meaning.{on_bytes}
 use Rattle.algebra.specs.Tuples.{times}
 use Rattle.algebra.proofs.Tuples.{length_times}
+use Rattle.blocks.proofs.Rooms.{part, written}
 use Rattle.blocks.proofs.quotient.Quotient.product.Goals as goal
+
+pub invariant_of-result : goal.invariant_of-result
+invariant_of-result g c =
+    let n = c.size-size.result in
+    let few = c.size-size.ensures.few in
+    written c.multiply.new.product n (c.multiply.auto.product ∙ part 0 n few) few
 
 pub returns : goal.returns
 returns g c =
@@ -10,7 +18,8 @@ returns g c =
     let f = c.args.self.now.low in
     let a = c.args.a in
     let b = c.args.b in
-    let value : c.from_bytes.result ≡ times O f a b
-    = c.from_bytes.ensures ∙ c.multiply.ensures.bytes
+    let n = c.size-size.result in
+    let front = take_at c.multiply.new.product (drop n (replicate 32 0)) n (c.multiply.auto.product ∙ part 0 n c.size-size.ensures.few) in
+    let value = front ∙ c.multiply.ensures.bytes
     ∙ ap₂ (λ (x y : _). times O x y c.as_slice-3.result.now) c.as_slice.ensures.value c.as_slice-2.ensures.value ∙ ap (times O f a) c.as_slice-3.ensures.value in
     record { value = value; size = ap length value ∙ length_times O f a b c.requires }

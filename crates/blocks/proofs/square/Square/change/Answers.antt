@@ -2,7 +2,7 @@ use Rattle.std.proofs.Common.{◌<◌, [], length, get_or, set, sym, refl, ap, �
 use Rattle.std.proofs.lemmas.List.{get_or_default}
 use Rattle.std.proofs.lemmas.List.Edits.{map_over_more}
 use Rattle.blocks.proofs.Rooms.{long_set}
-use Rattle.blocks.proofs.square.Square.changed.Goals as goal
+use Rattle.blocks.proofs.square.Square.change.Goals as goal
 
 pub loop-row-init : goal.loop-row-init
 loop-row-init g c = (λ f acts. refl, λ k h. c.self.invariant.even k h ∙ ap length c.self.view_is)

@@ -4,7 +4,7 @@ use Rattle.algebra.specs.Linear.{basis, shear_row}
 use Rattle.algebra.specs.Meaning.{Meaning, on_bytes}
 use Rattle.blocks.specs.Elimination.{lead_step}
 use Rattle.blocks.proofs.Coefficients.{zeros_are}
-use Rattle.blocks.proofs.elimination_value.Elimination.led.Goals as goal
+use Rattle.blocks.proofs.elimination_value.Elimination.lead.Goals as goal
 
 -- with the pivot in its place
 rests : (M : Meaning) (n place k : ℕ) (rows : List (List ℕ)) → place ≡ k → rows ≡ map (lead_step M n place k) rows
@@ -26,16 +26,16 @@ moves M n place k one step rows new other one_is step_is e =
 pub returns-then-place-k : goal.returns-then-place-k
 returns-then-place-k g c =
     let M = g.F.Field.meaning c.args.field.now in
-    let n = length c.args.self.work in
-    record { work = rests M n c.args.place c.args.k c.args.self.work c.if-place-k.true; account = rests M n c.args.place c.args.k c.args.self.account c.if-place-k.true }
+    let n = length c.args.self.now.work in
+    record { work = rests M n c.args.place c.args.k c.args.self.now.work c.if-place-k.true; account = rests M n c.args.place c.args.k c.args.self.now.account c.if-place-k.true }
 
 pub returns : goal.returns
 returns g c =
     let M = g.F.Field.meaning c.args.field.now in
-    let n = length c.args.self.work in
+    let n = length c.args.self.now.work in
     let moved = moves M n c.args.place c.args.k c.one-one.result c.with-step.result in
     let step = c.with-step.ensures ∙ ap (λ l. set l c.args.k c.one-one.result) (c.zeros.ensures ∙ ap (λ m. replicate m 0) c.size.ensures.value) in
     record {
-      work = moved c.args.self.work c.changed.result.work c.if-place-k.false c.one-one.ensures step c.changed.ensures.work;
-      account = moved c.args.self.account c.changed.result.account c.if-place-k.false c.one-one.ensures step c.changed.ensures.account;
+      work = moved c.args.self.now.work c.change.new.self.work c.if-place-k.false c.one-one.ensures step c.change.ensures.work;
+      account = moved c.args.self.now.account c.change.new.self.account c.if-place-k.false c.one-one.ensures step c.change.ensures.account;
     }
