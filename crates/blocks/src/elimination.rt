@@ -1,5 +1,5 @@
 //! Elimination by steps that change every row in one way, on rows to be made units and on rows that keep account of the steps.
-ghost use Rattle.std.specs.Prelude.{◌≡◌, ℕ, ◌<◌, ◌≤◌, ◌≢◌, true, false, [], map, length, IfSome, MatchOption, slice_index_or};
+ghost use Rattle.std.specs.Prelude.{◌≡◌, ℕ, ◌<◌, ◌≤◌, ◌≢◌, true, false, [], map, length, IfSome, MatchOption, slice_index_or, ⊤};
 ghost use Rattle.algebra.specs.Affine.{Square as Squared, DecidesInverse};
 ghost use Rattle.algebra.specs.Linear.{basis_from, shear_row};
 ghost use Rattle.algebra.specs.Meaning.{Laws, on_bytes};
@@ -92,10 +92,11 @@ impl Elimination {
         );
     }
 
-    // One row of elimination, if row k has a pivot.
+    // One row of elimination, if row k has a pivot; else nothing is changed.
     fn reduce<F: Field>(&mut self, field: &F, k: usize) -> Option<()>
         requires { k < length self.old.work }
-        ensures { MatchOption result (NoPivot k (slice_index_or self.old.work k [])) (λ _. RowReduced (F.meaning field.now) k self.old.work self.old.account self.new.work self.new.account) }
+        ensures pivot { MatchOption result (NoPivot k (slice_index_or self.old.work k [])) (λ _. RowReduced (F.meaning field.now) k self.old.work self.old.account self.new.work self.new.account) }
+        ensures stays { MatchOption result ((self.new.work ≡ self.old.work) × (self.new.account ≡ self.old.account)) (λ _. ⊤) }
     {
         let row = self.work.as_slice()[k];
         let place = pivot_place(row.as_slice(), k)?;

@@ -24,9 +24,9 @@ loop-k-preserved g c =
     let W = c.loop-k.state.work in
     let C = c.loop-k.state.account in
     let next = c.reduce.new.self in (
-      as_many M c.loop-k.k W C next.work next.account c.in_ok-reduce.ensures ∙ inv.0,
+      as_many M c.loop-k.k W C next.work next.account c.in_ok-reduce.ensures.pivot ∙ inv.0,
       λ laws square units.
-          one_more M (g.met.F.Field.shape x) laws (length rows) c.loop-k.k rows W C inv.0 less (inv.1 laws square units) next.work next.account c.in_ok-reduce.ensures,
+          one_more M (g.met.F.Field.shape x) laws (length rows) c.loop-k.k rows W C inv.0 less (inv.1 laws square units) next.work next.account c.in_ok-reduce.ensures.pivot,
     )
 
 pub returns-in_err-reduce-clause-verdict : goal.returns-in_err-reduce-clause-verdict
@@ -40,7 +40,7 @@ returns-in_err-reduce-clause-verdict g c laws square units =
     (record {
       square = λ e. absurd (false≢true e);
       inverts = λ e. absurd (false≢true e);
-      fails = λ e. row_stuck M (g.met.F.Field.shape x) laws (length rows) c.loop-k.k rows c.loop-k.state.work c.loop-k.state.account inv.0 less (inv.1 laws square units) c.in_err-reduce.ensures;
+      fails = λ e. row_stuck M (g.met.F.Field.shape x) laws (length rows) c.loop-k.k rows c.loop-k.state.work c.loop-k.state.account inv.0 less (inv.1 laws square units) c.in_err-reduce.ensures.pivot;
     })
 
 pub returns-clause-verdict : goal.returns-clause-verdict
