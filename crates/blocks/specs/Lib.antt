@@ -3,4 +3,3 @@ pub mod Moduli
 pub mod Elimination
 pub mod Maps
 pub mod RoomsLemmas
-pub mod Values

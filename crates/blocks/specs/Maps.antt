@@ -1,21 +1,22 @@
 -- What an affine map stands for.
-use Rattle.std.specs.Prelude.{◌≡◌, ℕ, List, length}
+use Rattle.std.specs.Prelude.{◌≡◌, ℕ, List, take}
 use Rattle.algebra.specs.Affine.{affine, Square, OneToOne, Inverts}
 use Rattle.algebra.specs.Blocks.{IsBlock}
 use Rattle.algebra.specs.Meaning.{Meaning}
+use Rattle.blocks.specs.Rooms.{rows_in}
 use Rattle.blocks.specs.declared.affine_value.AffineMap.{AffineMap}
 
 -- how many codes its blocks have
 abbrev pub size_of : AffineMap → ℕ
-size_of p = length p.constants
+size_of p = p.size
 
 -- its constants
 abbrev pub constants_of : AffineMap → List ℕ
-constants_of p = p.constants
+constants_of p = take p.size p.constants
 
 -- its rows
 abbrev pub rows_of : AffineMap → List (List ℕ)
-rows_of p = p.rows
+rows_of p = rows_in p.size p.rows
 
 -- the image of a block over a field
 abbrev pub image : Meaning → AffineMap → List ℕ → List ℕ

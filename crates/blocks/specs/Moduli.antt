@@ -1,19 +1,21 @@
 -- What a modulus stands for.
-use Rattle.std.specs.Prelude.{◌≡◌, ℕ, Bool, true, List, Decides}
+use Rattle.std.specs.Prelude.{◌≡◌, ℕ, ◌≤◌, Bool, true, List, take, Decides}
+use Rattle.std.proofs.Common.{sym, subst}
 use Rattle.algebra.specs.Arithmetic.{Arithmetic, Formed, Lawful, Returns}
 use Rattle.algebra.specs.Blocks.{Codes}
 use Rattle.algebra.specs.Iteration.{iterate}
 use Rattle.algebra.specs.Meaning.{Meaning, Shape, on_bytes}
 use Rattle.algebra.specs.Modular.{variable, modular, ModulusRule}
+use Rattle.blocks.specs.Rooms.{rows_in}
 use Rattle.blocks.specs.declared.modulus_value.Modulus.{Modulus}
 
 -- its low coefficients
 abbrev pub coefficients : Modulus → List ℕ
-coefficients p = p.low
+coefficients p = take p.size p.low
 
 -- the rows that it keeps
 abbrev pub kept_rows : Modulus → List (List ℕ)
-kept_rows p = p.rows
+kept_rows p = rows_in p.size p.rows
 
 -- arithmetic modulo it over a field, with the q-th power by the rows that it keeps
 abbrev pub arithmetic_of : Meaning → Modulus → Arithmetic
@@ -21,7 +23,7 @@ arithmetic_of M p = modular M (coefficients p) (kept_rows p)
 
 -- it is of the shape that every block arithmetic has
 pub is_formed : (M : Meaning) → Shape M → (p : Modulus) → Formed (arithmetic_of M p)
-is_formed M s p = record { shape = s; some = p.some; few = p.few }
+is_formed M s p = record { shape = s; some = subst (λ n. 1 ≤ n) (sym p.filled.whole) p.some; few = subst (λ n. n ≤ 32) (sym p.filled.whole) p.few }
 
 -- what an answer says of a modulus: whether the q-th power, v times over, leaves X; in lawful arithmetic, whether the modulus follows its rule; and
 -- where it does, every block is its own q^v-th power

@@ -1,5 +1,5 @@
 -- How a block, and a square of rows, lie in their rooms: at the start, with nothing behind them that could tell two apart.
-use Rattle.std.specs.Prelude.{◌≡◌, ℕ, zero, suc, ◌-◌, ◌<◌, ◌≤◌, List, [], ◌∷◌, ◌++◌, length, take, drop, replicate, slice_index_or}
+use Rattle.std.specs.Prelude.{◌≡◌, ℕ, zero, suc, ◌-◌, ◌<◌, ◌≤◌, List, [], ◌∷◌, ◌++◌, map, length, take, drop, replicate, slice_index_or}
 
 -- a block, and zeros behind it
 abbrev pub in_room : List ℕ → List ℕ
@@ -10,6 +10,10 @@ pub record Fills (size : ℕ) (room : List ℕ) : Type 0 where
   pub few : size ≤ 32
   pub whole : length (take size room) ≡ size
   pub rest : in_room (take size room) ≡ room
+
+-- n rows, each of n bytes at the start of a room
+abbrev pub rows_in : ℕ → List (List ℕ) → List (List ℕ)
+rows_in n rooms = map (take n) (take n rooms)
 
 -- every row is as long as there are rows
 abbrev pub Even : List (List ℕ) → Type 0

@@ -8,6 +8,7 @@ use crate::affine_value::AffineMap;
 use crate::block::Block;
 use crate::elimination::inverse_rows;
 use crate::linear::combined;
+use crate::rows::read_rows;
 use crate::square::Square;
 use field::Field;
 
@@ -21,9 +22,12 @@ impl AffineMap {
         ensures rows { rows_of result ≡ parts size size (drop size codes.now) }
     {
         let (constants, rows) = codes.split_at(size);
+        let constants = Block::from_bytes(constants).room();
+        let rows = read_rows(size, rows);
         AffineMap {
-            constants: Block::from_bytes(constants),
-            rows: Square::from_bytes(size, rows),
+            size,
+            constants,
+            rows,
         }
     }
 
@@ -32,7 +36,18 @@ impl AffineMap {
         ensures value { result ≡ size_of self.now }
         ensures few { result ≤ 32 }
     {
-        self.constants.size()
+        self.size
+    }
+
+    // Its constants.
+    fn constants(&self) -> Block
+        ensures value { result ≡ constants_of self.now }
+        ensures size { length result ≡ size_of self.now }
+    {
+        Block {
+            size: self.size,
+            room: self.constants,
+        }
     }
 
     /// The image of a block: the constants plus, for each i, the code at place i times row i.
@@ -41,7 +56,7 @@ impl AffineMap {
         ensures value { result ≡ image (F.meaning field.now) self.now block }
         ensures size { length result ≡ size_of self.now }
     {
-        combined(field, self.constants, &self.rows, block)
+        combined(field, self.constants(), &self.rows, block)
     }
 
     /// The inverse of a map that is one to one; nothing for one that is not.
@@ -49,9 +64,14 @@ impl AffineMap {
         ensures size { IfSome result (λ i. size_of i ≡ size_of self.now) }
         ensures verdict { (F.meaning field.now).sound ≡ true → MapCodes (F.meaning field.now) self.now → MatchOption result (OneToOne (F.meaning field.now) (size_of self.now) (image (F.meaning field.now) self.now) → ⊥) (UndoneBy (F.meaning field.now) self.now) }
     {
-        let rows = inverse_rows(field, &self.rows)?;
-        let zeros = Block::zeros(self.size());
-        let constants = combined(field, zeros, &rows, self.constants);
-        Some(AffineMap { constants, rows })
+        let square = Square::from_rooms(self.size, &self.rows);
+        let rows = inverse_rows(field, &square)?.to_rooms();
+        let zeros = Block::zeros(self.size);
+        let constants = combined(field, zeros, &rows, self.constants()).room();
+        Some(AffineMap {
+            size: self.size,
+            constants,
+            rows,
+        })
     }
 }

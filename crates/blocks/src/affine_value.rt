@@ -1,29 +1,17 @@
 ghost use Rattle.std.specs.Prelude.{◌≡◌, ◌≤◌, length};
+ghost use Rattle.blocks.specs.Rooms.{Fills};
 
-use crate::block::Block;
-use crate::square::Square;
-use std::marker::Model;
+use crate::block::WIDEST;
 
-/// An affine map on blocks of n codes: n constants and n rows.
+/// An affine map on blocks of n codes: n constants and n rows, each at the start of its room.
+// Arrays and no `Block`: a struct that holds a value with a model is copied only where it has a model too, and a caller's own has none.
 #[derive(Clone, Copy)]
 pub struct AffineMap {
-    pub(crate) constants: Block,
-    pub(crate) rows: Square,
-    // Again: in a clause a value is its list, whose type says no length.
-    ghost few: { length constants ≤ 32 },
-    ghost tall: { length rows ≡ length constants },
-}
-
-// A `Copy` struct that holds values with models is only copied where it has a model too; this one forgets nothing.
-impl Model for AffineMap {
-    ghost use Rattle.std.specs.Prelude.{⊤};
-    ghost use Rattle.blocks.specs.Values.{MapValue};
-
-    ghost Value = { MapValue };
-
-    ghost view = { λ m. record { constants = m.constants; rows = m.rows; few = m.few; tall = m.tall } };
-
-    ghost invariant = { λ m. ⊤ };
-
-    ghost inverse = { λ v. record { constants = v.constants; rows = v.rows; few = v.few; tall = v.tall } };
+    pub(crate) size: usize,
+    pub(crate) constants: [u8; WIDEST],
+    pub(crate) rows: [[u8; WIDEST]; WIDEST],
+    ghost few: { size ≤ 32 },
+    ghost room: { length constants ≡ 32 },
+    ghost tall: { length rows ≡ 32 },
+    ghost filled: { Fills size constants },
 }

@@ -1,7 +1,8 @@
 //! Blocks.
-ghost use Rattle.std.specs.Prelude.{◌≡◌, ◌<◌, ◌≤◌, length, replicate, slice_set};
+ghost use Rattle.std.specs.Prelude.{◌≡◌, ◌<◌, ◌≤◌, length, take, replicate, slice_set};
 ghost use Rattle.algebra.specs.Meaning.{on_bytes};
 ghost use Rattle.algebra.specs.Tuples.{plus, scale};
+ghost use Rattle.blocks.specs.Rooms.{in_room};
 
 use crate::tuples::add_multiple;
 use field::Field;
@@ -60,6 +61,15 @@ impl Block {
         }
     }
 
+    /// So many bytes at the start of a room.
+    pub(crate) fn at_start(size: usize, room: &[u8; WIDEST]) -> Block
+        requires { size ≤ 32 }
+        ensures value { result ≡ take size room.now }
+        ensures size { length result ≡ size }
+    {
+        Block::from_bytes(&room[..size])
+    }
+
     /// How many bytes it has.
     pub fn size(&self) -> usize
         ensures value { result ≡ length self.now }
@@ -75,6 +85,13 @@ impl Block {
     {
         let room = &self.room[..];
         &room[..self.size]
+    }
+
+    /// The room that it lies in.
+    pub(crate) fn room(self) -> [u8; WIDEST]
+        ensures { result ≡ in_room self }
+    {
+        self.room
     }
 
     /// Another byte at a place.

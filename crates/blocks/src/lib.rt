@@ -17,6 +17,7 @@ mod modulus_value;
 mod product;
 mod quotient;
 mod repeat;
+mod rows;
 mod rule;
 mod shear;
 mod square;

@@ -1,6 +1,6 @@
 //! Products modulo a monic polynomial, as block arithmetic.
 ghost use Rattle.std.specs.Prelude.{◌≡◌};
-ghost use Rattle.blocks.specs.Moduli.{arithmetic_of, is_formed};
+ghost use Rattle.blocks.specs.Moduli.{coefficients, arithmetic_of, is_formed};
 
 use crate::arithmetic::BlockArithmetic;
 use crate::block::Block;
@@ -13,12 +13,11 @@ impl<'f, 'm, F: Field> Modular<'f, 'm, F> {
     /// What its products take.
     pub(crate) fn quotient(&self) -> Quotient<'f, F>
         ensures field { result.field.now ≡ self.now.field.now }
-        ensures low { result.low ≡ self.now.modulus.now.low }
+        ensures low { result.low ≡ coefficients self.now.modulus.now }
     {
-        let modulus = self.modulus;
         Quotient {
             field: self.field,
-            low: modulus.low,
+            low: self.modulus.low(),
         }
     }
 }
@@ -34,7 +33,7 @@ impl<'f, 'm, F: Field> BlockArithmetic for Modular<'f, 'm, F> {
 
     fn size(&self) -> usize {
         let modulus = self.modulus;
-        modulus.low.size()
+        modulus.size
     }
 
     fn multiply(&self, a: Block, b: Block) -> Block {
@@ -48,7 +47,7 @@ impl<'f, 'm, F: Field> BlockArithmetic for Modular<'f, 'm, F> {
 
     fn raise_to_q(&self, block: Block) -> Block {
         let modulus = self.modulus;
-        let zeros = Block::zeros(modulus.low.size());
+        let zeros = Block::zeros(modulus.size);
         combined(self.field, zeros, &modulus.rows, block)
     }
 }

@@ -21,6 +21,18 @@ impl Modulus {
     {
         let low = Block::from_bytes(low);
         let rows = Quotient { field, low }.q_rows();
-        Modulus { low, rows }
+        let size = low.size();
+        let low = low.room();
+        Modulus { size, low, rows }
+    }
+
+    /// Its low coefficients.
+    pub(crate) fn low(&self) -> Block
+        ensures { result ≡ coefficients self.now }
+    {
+        Block {
+            size: self.size,
+            room: self.low,
+        }
     }
 }

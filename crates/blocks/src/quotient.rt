@@ -3,11 +3,11 @@ ghost use Rattle.std.specs.Prelude.{◌≡◌, ◌≤◌, length};
 ghost use Rattle.algebra.specs.Meaning.{on_bytes};
 ghost use Rattle.algebra.specs.Modular.{variable, x_to_q, q_rows};
 ghost use Rattle.algebra.specs.Tuples.{unit, times};
+ghost use Rattle.blocks.specs.Rooms.{rows_in};
 
 use crate::block::{Block, WIDEST};
 use crate::product::multiply;
 use crate::repeat::repeated;
-use crate::square::Square;
 use crate::tuples::multiply_by_x;
 use field::Field;
 
@@ -72,21 +72,18 @@ impl<F: Field> Quotient<'_, F> {
         repeated(|power| self.product(power, power), width, self.x())
     }
 
-    /// The rows of the q-th power: row i is the q-th power of X^i.
-    pub(crate) fn q_rows(&self) -> Square
-        ensures value { result ≡ q_rows (F.meaning self.now.field.now) self.now.low }
-        ensures size { length result ≡ length self.now.low }
+    /// The rows of the q-th power, each at the start of a room: row i is the q-th power of X^i.
+    pub(crate) fn q_rows(&self) -> [[u8; WIDEST]; WIDEST]
+        ensures { rows_in (length self.now.low) result ≡ q_rows (F.meaning self.now.field.now) self.now.low }
     {
         let factor = self.x_to_q();
         let mut power = self.one();
-        let size = self.low.size();
-        // No heap: rooms, of which the first count; those behind stay empty.
-        let mut rooms = [Block::zeros(0); WIDEST];
-        let rows = &mut rooms[..size];
+        let mut rooms = [[0u8; WIDEST]; WIDEST];
+        let rows = &mut rooms[..self.low.size()];
         for row in rows.iter_mut() {
-            *row = power;
+            *row = power.room();
             power = self.product(factor, power);
         }
-        Square { size, rooms }
+        rooms
     }
 }

@@ -12,5 +12,5 @@ pub fn follows_rule<F: Field>(field: &F, modulus: &Modulus) -> bool
 {
     let blocks = Modular { field, modulus };
     let x = blocks.quotient().x();
-    raise_repeatedly(&blocks, modulus.low.size(), x) == x
+    raise_repeatedly(&blocks, modulus.size, x) == x
 }

@@ -1,8 +1,8 @@
 //! Squares of rows.
-ghost use Rattle.std.specs.Prelude.{◌≡◌, ◌*◌, ◌<◌, ◌≤◌, List, ℕ, map, length};
+ghost use Rattle.std.specs.Prelude.{◌≡◌, ◌<◌, ◌≤◌, List, ℕ, map, length};
 ghost use Rattle.algebra.specs.Linear.{basis_from};
 ghost use Rattle.algebra.specs.Meaning.{on_bytes};
-ghost use Rattle.blocks.specs.Rooms.{Even, parts};
+ghost use Rattle.blocks.specs.Rooms.{Even, rows_in};
 
 use crate::block::{Block, WIDEST};
 use field::Field;
@@ -33,21 +33,35 @@ impl Model for Square {
 }
 
 impl Square {
-    /// The rows of so many bytes that follow each other.
-    pub(crate) fn from_bytes(size: usize, bytes: &[u8]) -> Square
-        requires few { size ≤ 32 }
-        requires bytes { length bytes.now ≡ size * size }
-        ensures value { result ≡ parts size size bytes.now }
-        ensures size { length result ≡ size }
+    /// The rows of so many bytes at the start of their rooms.
+    pub(crate) fn from_rooms(size: usize, rooms: &[[u8; WIDEST]; WIDEST]) -> Square
+        requires { size ≤ 32 }
+        ensures { result ≡ rows_in size rooms.now }
     {
-        // No heap: rooms, of which the first count; those behind stay empty.
-        let mut rooms = [Block::zeros(0); WIDEST];
-        let rows = &mut rooms[..size];
-        // By index, as in `units`. Chunks of 0 are refused; where there are no rows there are no bytes either.
-        for (i, row) in bytes.chunks_exact(size.max(1)).enumerate() {
-            rows[i] = Block::from_bytes(row);
+        // No heap: blocks, of which the first count; those behind stay empty.
+        let mut blocks = [Block::zeros(0); WIDEST];
+        let rows = &mut blocks[..size];
+        // By index, as in `units`.
+        for i in 0..size {
+            rows[i] = Block::at_start(size, &rooms[i]);
         }
-        Square { size, rooms }
+        Square {
+            size,
+            rooms: blocks,
+        }
+    }
+
+    /// Its rows, each at the start of a room.
+    pub(crate) fn to_rooms(&self) -> [[u8; WIDEST]; WIDEST]
+        ensures { rows_in (length self.now) result ≡ self.now }
+    {
+        let mut rooms = [[0u8; WIDEST]; WIDEST];
+        let rows = self.as_slice();
+        // By index, as in `units`.
+        for i in 0..rows.len() {
+            rooms[i] = rows[i].room();
+        }
+        rooms
     }
 
     /// Its rows.
