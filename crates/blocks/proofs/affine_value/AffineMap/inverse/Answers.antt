@@ -1,4 +1,4 @@
-use Rattle.std.proofs.Common.{◌≡◌, ℕ, ◌≤◌, Bool, true, false, List, [], MatchOption, map, length, take, replicate, sym, refl, ap, ◌∙◌, subst, ap₂, arith, length-take}
+use Rattle.std.proofs.Common.{◌≡◌, ℕ, Bool, true, false, List, [], MatchOption, length, take, sym, refl, ap, ◌∙◌, subst, ap₂, arith, length-take}
 use Rattle.std.proofs.lemmas.List.{length-map, length-replicate}
 use Rattle.algebra.specs.Affine.{Square, OneToOne, DecidesInverse}
 use Rattle.algebra.specs.Linear.{combination}
