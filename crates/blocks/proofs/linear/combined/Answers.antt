@@ -16,8 +16,8 @@ loop-row-init g c =
     let rows : iter_rest (zip_first c.into_iter-row-iterator.result) ≡ take c.constants.inside.size c.args.rows.now = search rules in
     let factors : iter_rest (zip_second c.into_iter-row-iterator.result) ≡ c.args.factors = search rules in (
       ap (λ (s : List ℕ). combination O s (map (take n) (iter_rest (zip_first c.into_iter-row-iterator.result))) (iter_rest (zip_second c.into_iter-row-iterator.result))) c.constants.view_is
-      ∙ ap (λ (r : List (List ℕ)). combination O c.args.constants (map (take n) r) (iter_rest (zip_second c.into_iter-row-iterator.result))) (rows ∙ ap (λ k. take k c.args.rows.now) size)
-      ∙ ap (combination O c.args.constants (rows_in n c.args.rows.now)) factors,
+          ∙ ap (λ (r : List (List ℕ)). combination O c.args.constants (map (take n) r) (iter_rest (zip_second c.into_iter-row-iterator.result))) (rows ∙ ap (λ k. take k c.args.rows.now) size)
+          ∙ ap (combination O c.args.constants (rows_in n c.args.rows.now)) factors,
       ap length c.constants.view_is,
     )
 

@@ -19,7 +19,7 @@ loop-i-preserved c =
     let is : row ≡ get_or rows i [] = c.index-rows-i.is ∙ ap (λ r. get_or r i row) own.value ∙ sym (get_or_default rows i [] row less) in
     let kept : take n c.room.result ≡ get_or rows i [] = ap (take n) c.room.ensures ∙ start row n (ap length is ∙ own.even i less) ∙ is in (
       ap (map (take n)) (take_more_set rooms i c.room.result inside) ∙ map-append (take n) (take i rooms) (c.room.result ∷ [])
-      ∙ ap₂ (λ (l : List (List ℕ)) (x : List ℕ). l ++ (x ∷ [])) c.loop-i.invariant.0 kept ∙ sym (take_more rows i [] less),
+          ∙ ap₂ (λ (l : List (List ℕ)) (x : List ℕ). l ++ (x ∷ [])) c.loop-i.invariant.0 kept ∙ sym (take_more rows i [] less),
       length-set rooms i c.room.result ∙ c.loop-i.invariant.1,
     )
 
