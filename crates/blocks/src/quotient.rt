@@ -78,6 +78,7 @@ impl<F: Field> Quotient<'_, F> {
     {
         let factor = self.x_to_q();
         let mut power = self.one();
+        // No heap: rooms, of which the first count.
         let mut rooms = [[0u8; WIDEST]; WIDEST];
         let rows = &mut rooms[..self.low.size()];
         for row in rows.iter_mut() {

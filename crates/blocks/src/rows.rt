@@ -10,6 +10,7 @@ pub(crate) fn read_rows(size: usize, bytes: &[u8]) -> [[u8; WIDEST]; WIDEST]
     requires bytes { length bytes.now ≡ size * size }
     ensures { rows_in size result ≡ parts size size bytes.now }
 {
+    // No heap: rooms, of which the first count.
     let mut rooms = [[0u8; WIDEST]; WIDEST];
     let rows = &mut rooms[..size];
     // By index, as in `units`. Chunks of 0 are refused; where there are no rows there are no bytes either.

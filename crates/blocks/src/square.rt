@@ -55,8 +55,9 @@ impl Square {
     pub(crate) fn to_rooms(&self) -> [[u8; WIDEST]; WIDEST]
         ensures { rows_in (length self.now) result ≡ self.now }
     {
-        let mut rooms = [[0u8; WIDEST]; WIDEST];
         let rows = self.as_slice();
+        // No heap: rooms, of which the first count.
+        let mut rooms = [[0u8; WIDEST]; WIDEST];
         // By index, as in `units`.
         for i in 0..rows.len() {
             rooms[i] = rows[i].room();
