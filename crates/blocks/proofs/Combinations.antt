@@ -1,6 +1,6 @@
 -- A combination of rows, row by row from the first.
 -- Assumes nothing.
-use Rattle.std.proofs.Common.{◌≡◌, ℕ, suc, ◌<◌, List, [], ◌∷◌, length, get_or, sym, refl, ap, ◌∙◌, subst, ap₂, suc-ne-zero, suc-le-suc, zero-lt-suc}
+use Rattle.std.proofs.Common.{◌≡◌, ℕ, List, [], ◌∷◌, length, sym, refl, ap, ◌∙◌, ap₂, suc-ne-zero}
 use lib.Bits.{xor_comm, xor_assoc, bit_xor}
 use Rattle.algebra.specs.Meaning.{Meaning, on_bytes}
 use Rattle.algebra.specs.Tuples.{plus, scale}
@@ -45,13 +45,3 @@ module _ (M : Meaning) where
   no_factors sum [] xs h = refl
   no_factors sum (row ∷ rows) [] h = refl
   no_factors sum (row ∷ rows) (x ∷ xs) h = absurd (suc-ne-zero (length xs) h)
-
--- of rows of one length, the first and the rest have it
-pub first_long : (n : ℕ) (rows rest : List (List ℕ)) (row : List ℕ) → rows ≡ row ∷ rest → ((i : ℕ) → i < length rows → length (get_or rows i []) ≡ n) → length row ≡ n
-first_long n rows rest row e each =
-    subst (λ (r : List (List ℕ)). (i : ℕ) → i < length r → length (get_or r i []) ≡ n) e each 0 (zero-lt-suc (length rest))
-
-pub rest_long : (n : ℕ) (rows rest : List (List ℕ)) (row : List ℕ) → rows ≡ row ∷ rest → ((i : ℕ) → i < length rows → length (get_or rows i []) ≡ n)
-    → (i : ℕ) → i < length rest → length (get_or rest i []) ≡ n
-rest_long n rows rest row e each i h =
-    subst (λ (r : List (List ℕ)). (i : ℕ) → i < length r → length (get_or r i []) ≡ n) e each (suc i) (suc-le-suc h)

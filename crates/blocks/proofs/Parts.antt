@@ -1,8 +1,8 @@
 -- Bytes that are read as rows, one after the other.
 -- Assumes nothing.
-use Rattle.std.proofs.Common.{◌≡◌, ℕ, zero, suc, ◌+◌, ◌-◌, ◌*◌, ◌<◌, ◌≤◌, List, [], ◌∷◌, ◌++◌, length, take, drop, set, sym, refl, ap, ◌∙◌, append_assoc, append-nil, mul-suc, max, get_or, subst, ⊎_elim, mul-zero, zero-mul, suc-ne-zero, arith, length-append, length-drop}
+use Rattle.std.proofs.Common.{◌≡◌, ℕ, zero, suc, ◌+◌, ◌-◌, ◌*◌, ◌<◌, ◌≤◌, List, [], ◌∷◌, ◌++◌, length, take, drop, set, sym, refl, ap, ◌∙◌, append_assoc, append-nil, mul-suc, max, subst, ⊎_elim, mul-zero, zero-mul, suc-ne-zero, arith, length-append, length-drop}
 use Rattle.std.proofs.lemmas.Bool.{cases_lt}
-use Rattle.std.proofs.lemmas.List.{take_more_set, take_at, drop_at, take_all, length-take-le}
+use Rattle.std.proofs.lemmas.List.{take_more_set, take_at, drop_at, take_all}
 use Rattle.blocks.specs.Rooms.{parts}
 
 -- the first i rows are read; what is left of the bytes gives the rest
@@ -70,10 +70,3 @@ all_parted (suc m) bytes i rows rest p few tall =
     more h =
         let e : suc m - i ≡ suc (suc m - i - 1) = omega arith in
         omega (arith, p.left ∙ ap (λ k. suc m * k) e, mul-suc (suc m) (suc m - i - 1))
-
--- each of the parts has its length
-pub parts_long : (n k : ℕ) (bytes : List ℕ) → length bytes ≡ n * k → (i : ℕ) → i < k → length (get_or (parts n k bytes) i []) ≡ n
-unfolding parts
-parts_long n zero bytes h i less = absurd (omega arith)
-parts_long n (suc k) bytes h zero less = length-take-le n bytes (omega (arith, h ∙ mul-suc n k))
-parts_long n (suc k) bytes h (suc i) less = parts_long n k (drop n bytes) (omega (arith, length-drop n bytes, h ∙ mul-suc n k)) i (omega arith)

@@ -18,10 +18,6 @@ written bytes n size few =
 pub start : (block : List ℕ) (n : ℕ) → length block ≡ n → take n (in_room block) ≡ block
 start block n size = take_at block (replicate (32 - length block) 0) n size
 
--- a block fills its room
-pub kept : (block : List ℕ) (n : ℕ) → length block ≡ n → n ≤ 32 → Fills n (in_room block)
-kept block n size few = record { few = few; whole = ap length (start block n size) ∙ size; rest = ap in_room (start block n size) }
-
 pub zeros : (n : ℕ) → n ≤ 32 → Fills n (replicate 32 0)
 zeros n few =
     let all : n + (32 - n) ≡ 32 = omega arith in

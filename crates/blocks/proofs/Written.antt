@@ -1,6 +1,6 @@
 -- The loop that writes the rows of the q-th power.
 -- Assumes nothing.
-use Rattle.std.proofs.Common.{◌≡◌, ℕ, ◌+◌, ◌<◌, List, [], ◌∷◌, ◌++◌, length, get_or, take, set, sym, refl, ap, ◌∙◌, ap₂, not-suc-le-zero, arith, below_more, get_or-set_other, get_or-set_same}
+use Rattle.std.proofs.Common.{◌≡◌, ℕ, ◌+◌, ◌<◌, List, [], ◌∷◌, ◌++◌, length, take, set, sym, refl, ap, ◌∙◌, ap₂}
 use Rattle.std.proofs.lemmas.List.{take_more_set}
 use Rattle.algebra.specs.Iteration.{iterate}
 use Rattle.algebra.specs.Modular.{multiples}
@@ -12,12 +12,11 @@ pub record RowsTo (product : List ℕ → List ℕ → List ℕ) (v : ℕ) (w fi
   pub next : power ≡ iterate (product w) i first
   pub size : length power ≡ v
   pub done : take i rows ≡ multiples product w first i
-  pub even : (k : ℕ) → k < i → length (get_or rows k []) ≡ v
 
 module _ (product : List ℕ → List ℕ → List ℕ) (v : ℕ) (w first : List ℕ) where
   pub no_rows : (rows : List (List ℕ)) → length first ≡ v → RowsTo product v w first 0 first rows
   unfolding iterate multiples
-  no_rows rows size = record { next = refl; size = size; done = refl; even = λ k h. absurd (not-suc-le-zero h) }
+  no_rows rows size = record { next = refl; size = size; done = refl }
 
   pub row_written : (i : ℕ) (power next : List ℕ) (rows : List (List ℕ)) → RowsTo product v w first i power rows
       → i < length rows → next ≡ product w power → length next ≡ v → RowsTo product v w first (i + 1) next (set rows i power)
@@ -25,7 +24,4 @@ module _ (product : List ℕ → List ℕ → List ℕ) (v : ℕ) (w first : Lis
     next = is ∙ ap (product w) r.next ∙ iterate_next (product w) i first;
     size = size;
     done = take_more_set rows i power h ∙ ap₂ (λ (l : List (List ℕ)) (x : List ℕ). l ++ (x ∷ [])) r.done r.next ∙ sym (multiples_more product w first i);
-    even = below_more (λ k. length (get_or (set rows i power) k []) ≡ v) i
-        (λ k less. ap length (get_or-set_other rows i k power [] (λ e. omega arith)) ∙ r.even k less)
-        (ap length (get_or-set_same rows i power [] h) ∙ r.size);
   }

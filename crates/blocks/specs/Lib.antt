@@ -3,3 +3,4 @@ pub mod Moduli
 pub mod Elimination
 pub mod Maps
 pub mod RoomsLemmas
+pub mod ModuliLemmas

@@ -1,10 +1,9 @@
 -- What a modulus stands for.
-use Rattle.std.specs.Prelude.{◌≡◌, ℕ, ◌≤◌, Bool, true, List, take, Decides}
-use Rattle.std.proofs.Common.{sym, subst}
-use Rattle.algebra.specs.Arithmetic.{Arithmetic, Formed, Lawful, Returns}
+use Rattle.std.specs.Prelude.{◌≡◌, ℕ, Bool, true, List, take, Decides}
+use Rattle.algebra.specs.Arithmetic.{Arithmetic, Lawful, Returns}
 use Rattle.algebra.specs.Blocks.{Codes}
 use Rattle.algebra.specs.Iteration.{iterate}
-use Rattle.algebra.specs.Meaning.{Meaning, Shape, on_bytes}
+use Rattle.algebra.specs.Meaning.{Meaning, on_bytes}
 use Rattle.algebra.specs.Modular.{variable, modular, ModulusRule}
 use Rattle.blocks.specs.Rooms.{rows_in}
 use Rattle.blocks.specs.declared.modulus_value.Modulus.{Modulus}
@@ -20,10 +19,6 @@ kept_rows p = rows_in p.size p.rows
 -- arithmetic modulo it over a field, with the q-th power by the rows that it keeps
 abbrev pub arithmetic_of : Meaning → Modulus → Arithmetic
 arithmetic_of M p = modular M (coefficients p) (kept_rows p)
-
--- it is of the shape that every block arithmetic has
-pub is_formed : (M : Meaning) → Shape M → (p : Modulus) → Formed (arithmetic_of M p)
-is_formed M s p = record { shape = s; some = subst (λ n. 1 ≤ n) (sym p.filled.whole) p.some; few = subst (λ n. n ≤ 32) (sym p.filled.whole) p.few }
 
 -- what an answer says of a modulus: whether the q-th power, v times over, leaves X; in lawful arithmetic, whether the modulus follows its rule; and
 -- where it does, every block is its own q^v-th power

@@ -10,6 +10,7 @@ pub struct AffineMap {
     pub(crate) size: usize,
     pub(crate) constants: [u8; WIDEST],
     pub(crate) rows: [[u8; WIDEST]; WIDEST],
+    // `few` and `room` follow from `filled`; they are said for those who ask for no more.
     ghost few: { size ≤ 32 },
     ghost room: { length constants ≡ 32 },
     ghost tall: { length rows ≡ 32 },

@@ -12,7 +12,7 @@ use std::marker::Model;
 pub const WIDEST: usize = 32;
 
 /// A block of at most 32 bytes. It is seen as the list of them; behind them its room holds zeros.
-// No heap, so its length stands beside its room; outside this file it is the list.
+// No heap, so its length stands beside its room; in clauses it is the list.
 #[derive(Clone, Copy, PartialEq, Eq, Debug)]
 pub struct Block {
     pub(crate) size: usize,

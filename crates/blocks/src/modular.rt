@@ -1,6 +1,7 @@
 //! Products modulo a monic polynomial, as block arithmetic.
 ghost use Rattle.std.specs.Prelude.{◌≡◌};
-ghost use Rattle.blocks.specs.Moduli.{coefficients, arithmetic_of, is_formed};
+ghost use Rattle.blocks.specs.Moduli.{coefficients, arithmetic_of};
+ghost use Rattle.blocks.specs.ModuliLemmas.{is_formed};
 
 use crate::arithmetic::BlockArithmetic;
 use crate::block::Block;
@@ -32,8 +33,7 @@ impl<'f, 'm, F: Field> BlockArithmetic for Modular<'f, 'm, F> {
     }
 
     fn size(&self) -> usize {
-        let modulus = self.modulus;
-        modulus.size
+        self.modulus.size
     }
 
     fn multiply(&self, a: Block, b: Block) -> Block {
@@ -46,8 +46,7 @@ impl<'f, 'm, F: Field> BlockArithmetic for Modular<'f, 'm, F> {
     }
 
     fn raise_to_q(&self, block: Block) -> Block {
-        let modulus = self.modulus;
-        let zeros = Block::zeros(modulus.size);
-        combined(self.field, zeros, &modulus.rows, block)
+        let zeros = Block::zeros(self.modulus.size);
+        combined(self.field, zeros, &self.modulus.rows, block)
     }
 }

@@ -12,6 +12,7 @@ pub struct Modulus {
     pub(crate) low: [u8; WIDEST],
     pub(crate) rows: [[u8; WIDEST]; WIDEST],
     ghost some: { 1 ≤ size },
+    // `few` and `room` follow from `filled`; they are said for those who ask for no more.
     ghost few: { size ≤ 32 },
     ghost room: { length low ≡ 32 },
     ghost tall: { length rows ≡ 32 },

@@ -13,7 +13,7 @@ pub(crate) fn read_rows(size: usize, bytes: &[u8]) -> [[u8; WIDEST]; WIDEST]
     // No heap: rooms, of which the first count.
     let mut rooms = [[0u8; WIDEST]; WIDEST];
     let rows = &mut rooms[..size];
-    // By index, as in `units`. Chunks of 0 are refused; where there are no rows there are no bytes either.
+    // By index, as in `Square::units`. Chunks of 0 are refused; where there are no rows there are no bytes either.
     for (i, row) in bytes.chunks_exact(size.max(1)).enumerate() {
         rows[i] = Block::from_bytes(row).room();
     }

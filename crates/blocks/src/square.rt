@@ -9,7 +9,7 @@ use field::Field;
 use std::marker::Model;
 
 /// At most 32 rows, each with as many bytes as there are rows. It is seen as the list of them; behind them lie empty rows.
-// No heap, so the number of rows stands beside their rooms; outside this file it is the list. Not one type with `Block`: what lies behind differs, and
+// No heap, so the number of rows stands beside their rooms; in clauses it is the list. Not one type with `Block`: what lies behind differs, and
 // so does what is asked of each element.
 #[derive(Clone, Copy)]
 pub struct Square {
