@@ -24,10 +24,16 @@ zeros n few =
     subst (Fills n) (ap (λ t. replicate n 0 ++ t) (drop-replicate n 32 0) ∙ replicate-append-replicate n (32 - n) 0 ∙ ap (λ k. replicate k 0) all)
     (written (replicate n 0) n (length-replicate n 0) few)
 
-pub square : (rows : List (List ℕ)) (n : ℕ) → length rows ≡ n → n ≤ 32 → Even rows → FillsSquare n (rows ++ drop n (replicate 32 []))
+square : (rows : List (List ℕ)) (n : ℕ) → length rows ≡ n → n ≤ 32 → Even rows → FillsSquare n (rows ++ drop n (replicate 32 []))
 square rows n size few even =
     let start = take_at rows (drop n (replicate 32 [])) n size in
     record { few = few; whole = ap length start ∙ size; even = subst Even (sym start) even; rest = ap in_rooms start ∙ front [] rows n size }
+
+-- rows that were all written, over the start of rooms that are empty
+pub all_written : (rows : List (List ℕ)) (n i : ℕ) (e : List ℕ) → e ≡ [] → length rows ≡ n → i ≡ n → n ≤ 32 → ((k : ℕ) → k < i → length (get_or rows k []) ≡ n)
+    → FillsSquare n (rows ++ drop n (replicate 32 e))
+all_written rows n i e empty tall done few long =
+    subst (λ x. FillsSquare n (rows ++ drop n (replicate 32 x))) (sym empty) (square rows n tall few (λ k h. long k (omega (arith, h, tall, done)) ∙ sym tall))
 
 -- how long the part of a room is that a call is lent
 pub part : {A : Type 0} (e : A) (n : ℕ) → n ≤ 32 → length (take n (replicate 32 e)) ≡ n

@@ -11,7 +11,7 @@ pub record Fills (size : ℕ) (room : List ℕ) : Type 0 where
   pub whole : length (take size room) ≡ size
   pub rest : in_room (take size room) ≡ room
 
--- n rows, each of n bytes at the start of a room
+-- n rows, each of n bytes at the start of a room, whatever lies behind
 abbrev pub rows_in : ℕ → List (List ℕ) → List (List ℕ)
 rows_in n rooms = map (take n) (take n rooms)
 

@@ -1,7 +1,6 @@
-use Rattle.std.proofs.Common.{◌≡◌, ℕ, ◌<◌, List, [], ◌∷◌, ◌++◌, map, length, get_or, take, drop, set, replicate, sym, refl, ap, ◌∙◌, subst, ap₂, arith, below_more, get_or-set_other, get_or-set_same, not-suc-le-zero}
+use Rattle.std.proofs.Common.{◌≡◌, ℕ, ◌<◌, List, [], ◌∷◌, ◌++◌, map, length, get_or, take, drop, set, replicate, sym, refl, ap, ◌∙◌, ap₂, arith, below_more, get_or-set_other, get_or-set_same, not-suc-le-zero}
 use Rattle.std.proofs.lemmas.List.{take_more_set, take_all, take_at, map_more}
-use Rattle.blocks.specs.Rooms.{FillsSquare}
-use Rattle.blocks.proofs.Rooms.{part, square}
+use Rattle.blocks.proofs.Rooms.{part, all_written}
 use Rattle.blocks.proofs.square.Square.from_rooms.Goals as goal
 
 pub loop-i-init : goal.loop-i-init
@@ -28,8 +27,7 @@ invariant_of-result c =
     let rows = c.loop-i.rows in
     let tall : length rows ≡ n = c.loop-i.auto.rows ∙ part c.zeros-blocks.result n c.requires in
     let done : c.loop-i.i ≡ n = omega (arith, c.loop-i-test.false, c.loop-i.auto.i-end) in
-    subst (λ e. FillsSquare n (rows ++ drop n (replicate 32 e))) (sym c.zeros-blocks.ensures)
-    (square rows n tall c.requires (λ k h. c.loop-i.invariant.1 k (omega (arith, h, tall, done)) ∙ sym tall))
+    all_written rows n c.loop-i.i c.zeros-blocks.result c.zeros-blocks.ensures tall done c.requires c.loop-i.invariant.1
 
 pub returns : goal.returns
 returns c =

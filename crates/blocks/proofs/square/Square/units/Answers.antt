@@ -1,11 +1,10 @@
-use Rattle.std.proofs.Common.{◌≡◌, ℕ, ◌+◌, ◌<◌, List, [], ◌∷◌, ◌++◌, length, get_or, drop, set, replicate, sym, refl, ap, ◌∙◌, subst, ap₂, zero-add, arith, length-set, below_more, get_or-set_other, get_or-set_same, not-suc-le-zero}
+use Rattle.std.proofs.Common.{◌≡◌, ℕ, ◌+◌, ◌<◌, List, [], ◌∷◌, ◌++◌, length, get_or, drop, set, replicate, sym, refl, ap, ◌∙◌, ap₂, zero-add, arith, length-set, below_more, get_or-set_other, get_or-set_same, not-suc-le-zero}
 use Rattle.std.proofs.lemmas.List.{take_more_set, take_all, take_at, length-replicate}
 use Rattle.algebra.specs.Linear.{basis, basis_from}
 use Rattle.algebra.specs.Meaning.{on_bytes}
 use Rattle.algebra.proofs.Basis.{basis_more}
-use Rattle.blocks.specs.Rooms.{FillsSquare}
 use Rattle.blocks.proofs.Coefficients.{zeros_are}
-use Rattle.blocks.proofs.Rooms.{part, square}
+use Rattle.blocks.proofs.Rooms.{part, all_written}
 use Rattle.blocks.proofs.square.Square.units.Goals as goal
 
 pub loop-i-init : goal.loop-i-init
@@ -37,8 +36,7 @@ invariant_of-result g c =
     let rows = c.loop-i.rows in
     let tall : length rows ≡ n = c.loop-i.auto.rows ∙ part c.zeros-rooms.result n c.requires in
     let done : c.loop-i.i ≡ n = omega (arith, c.loop-i-test.false, c.loop-i.auto.i-end) in
-    subst (λ e. FillsSquare n (rows ++ drop n (replicate 32 e))) (sym c.zeros-rooms.ensures)
-    (square rows n tall c.requires (λ k h. c.loop-i.invariant.1 k (omega (arith, h, tall, done)) ∙ sym tall))
+    all_written rows n c.loop-i.i c.zeros-rooms.result c.zeros-rooms.ensures tall done c.requires c.loop-i.invariant.1
 
 pub returns : goal.returns
 returns g c =
